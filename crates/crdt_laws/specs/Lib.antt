@@ -1,0 +1,4 @@
+pub mod Entry
+pub mod Present
+pub mod Sets
+pub mod Tower

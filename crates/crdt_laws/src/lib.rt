@@ -1,0 +1,10 @@
+//! Towers of operations, the laws that they keep, the sets of operations, and the small types of documents.
+#![tactic(auto)]
+
+mod sets;
+mod small;
+mod tower;
+
+pub use sets::canonical_list;
+pub use small::{Bytes, Entry, List, Names, NoMemory, Ops, Txt};
+pub use tower::{Tower, is_lawful, is_within};

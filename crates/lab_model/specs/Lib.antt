@@ -1,0 +1,4 @@
+pub mod Honest
+pub mod Lab
+pub mod Line
+pub mod Text

@@ -1,0 +1,28 @@
+use crate::name::FileName;
+use std::fmt;
+
+/// Why a line is refused. It changes nothing then.
+#[derive(Debug, Drop)]
+pub enum Refusal {
+    /// It is none of the lines that are built, or it takes a batch for a replica or a replica for a batch.
+    Unbuilt,
+    /// A replica of this name is there already.
+    Exists(FileName),
+    /// There is nothing of this name.
+    Missing(FileName),
+}
+
+impl fmt::Display for Refusal {
+    ghost use Rattle.std.specs.Prelude.{Some};
+    ghost use Rattle.lab_model.specs.Text.{refusal_text};
+
+    ghost output = { λ r. Some (refusal_text r) };
+
+    fn fmt<W: fmt::Write>(&self, f: &mut fmt::Formatter<W>) -> fmt::Result {
+        match self {
+            Refusal::Unbuilt => write!(f, "unbuilt"),
+            Refusal::Exists(name) => write!(f, "exists {name}"),
+            Refusal::Missing(name) => write!(f, "missing {name}"),
+        }
+    }
+}

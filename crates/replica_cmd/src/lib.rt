@@ -1,0 +1,2 @@
+//! The commands of the program: lines of a script over named replicas and batches.
+#![tactic(auto)]
