@@ -1,4 +1,5 @@
-ghost use Rattle.std.specs.Prelude.{◌≡◌, ◌↔◌, IsTrue, IfOk};
+ghost use Rattle.std.specs.Prelude.{◌≡◌, IfOk};
+ghost use Rattle.std.specs.Str.{bytes_eq};
 
 use std::alloc::{AllocError, Global};
 use std::fmt;
@@ -31,7 +32,7 @@ impl FileName {
 
     /// Whether the two names are one.
     pub fn is(&self, other: &FileName) -> bool
-        ensures { IsTrue result ↔ (self.now ≡ other.now) }
+        ensures { result ≡ bytes_eq self.now other.now }
     {
         self.text.as_str() == other.text.as_str()
     }
