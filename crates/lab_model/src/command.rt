@@ -7,7 +7,7 @@ pub enum Verb {
     Mul,
 }
 
-/// A line of a script, with its parts. The one schema is `@pair`, with the members 0 and 1 and a number `n`.
+/// A line, with its parts. The one schema is `@pair`, with the members 0 and 1 and a number `n`.
 #[derive(Debug, Drop)]
 pub enum Command {
     /// Makes a replica.
