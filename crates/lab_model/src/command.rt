@@ -35,4 +35,6 @@ pub enum Command {
         file: FileName,
         batch: FileName,
     },
+    /// Runs the lines of a script. It is no line of one itself.
+    Play,
 }
