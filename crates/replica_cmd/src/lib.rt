@@ -1,2 +1,4 @@
 //! The commands of the program: lines of a script over named replicas and batches.
 #![tactic(auto)]
+
+mod number;
