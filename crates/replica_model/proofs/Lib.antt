@@ -1,3 +1,5 @@
+pub mod Meetings
+pub mod Merged
 pub mod Names
 pub mod Pools
 pub mod Ready

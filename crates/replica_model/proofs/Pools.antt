@@ -11,6 +11,7 @@ use Rattle.crdt_laws.specs.Sets.{AreApart, IsHonest, IsRising, canonical, has_na
 use Rattle.crdt_laws.proofs.Filters.{all-append, all-filter}
 use Rattle.crdt_laws.proofs.Members.{Contains-canonical, Contains-front, Contains-more, at_member}
 use Rattle.crdt_laws.proofs.Place.{rising-canonical}
+use Rattle.replica_model.specs.Family.{MayMerge}
 use Rattle.replica_model.specs.Replica.{Replica, Batch, pooled}
 use Rattle.replica_model.proofs.Names.{all_from_contains, has_name_from, named_in, same_id_is, same_id_from_ids}
 use Rattle.replica_model.proofs.Ready.{filter_inside, filter_passed, filter_has}
@@ -94,15 +95,9 @@ together_has {Op} zs xs ys h part e c =
       ]
     ])
 
--- a set that two lists leave
+-- what a replica and a batch have together
 
-pub record MayPool {Op : Type 0} (r : Replica Op) (b : Batch Op) : Type 0 where
-  pub honest : IsHonest ((r.delivered ++ r.waiting) ++ b.ops)
-  pub delivered_by_key : IsRising r.delivered
-  pub waiting_by_key : IsRising r.waiting
-  pub batch_by_key : IsRising b.ops
-
-module _ {Op : Type 0} (r : Replica Op) (b : Batch Op) (may : MayPool r b) where
+module _ {Op : Type 0} (r : Replica Op) (b : Batch Op) (may : MayMerge r b) where
   abbrev all_ops : List (Entry Op)
   all_ops = (r.delivered ++ r.waiting) ++ b.ops
 
