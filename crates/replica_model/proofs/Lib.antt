@@ -1,7 +1,9 @@
 pub mod Edits
+pub mod Families
 pub mod Meetings
 pub mod Merged
 pub mod Names
 pub mod Pools
 pub mod Ready
+pub mod Things
 pub mod Versions
