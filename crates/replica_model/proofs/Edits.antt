@@ -1,14 +1,14 @@
 -- A new operation of a member keeps the honest set in which all of that member's operations are its own.
-use Rattle.std.proofs.Common.{◌≡◌, ℕ, ◌+◌, ◌<◌, ◌≤◌, Bool, true, false, List, [], ◌∷◌, ◌++◌, refl, ap, sym, ◌∙◌, subst, arith, Contains, length, inl, inr, ◌⊎◌}
+use Rattle.std.proofs.Common.{◌≡◌, ℕ, ◌+◌, ◌<◌, ◌≤◌, true, false, List, ◌∷◌, ◌++◌, refl, ap, sym, ◌∙◌, subst, arith, Contains, length, inl, inr, ◌⊎◌}
 use Rattle.std.specs.List.{Any}
 use Rattle.std.proofs.Math.ListN.{length-set}
-use Rattle.std.proofs.lemmas.Bool.{both_ways, false_from_ne_true, leb-true, le-leb}
+use Rattle.std.proofs.lemmas.Bool.{both_ways, false_from_ne_true, le-leb}
 use Rattle.std.proofs.lemmas.List.Elements.{All-contains, Contains-append_left, Contains-append_right, Contains-append_cases}
 use Rattle.vector_clock.specs.declared.clock.Clock.{Clock}
 use Rattle.vector_clock.specs.declared.clock.Id.{Id}
 use Rattle.vector_clock.specs.declared.stamp.Stamp.{Stamp}
-use Rattle.vector_clock.specs.Clock.{IsAtMost, IsClock, count, covers, with_entry}
-use Rattle.vector_clock.specs.Stamp.{IsAfter, IsStamp, id_of, is_before, same_id}
+use Rattle.vector_clock.specs.Clock.{IsAtMost, count, covers}
+use Rattle.vector_clock.specs.Stamp.{IsAfter, id_of, is_before, same_id}
 use Rattle.vector_clock.proofs.Keys.{before_covers, same_id_sym}
 use Rattle.crdt_laws.specs.declared.small.Entry.{Entry}
 use Rattle.crdt_laws.specs.Entry.{entry}
@@ -47,14 +47,15 @@ honest_with {Op} zs x honest fresh after unknown = record { same = same; known =
             | inr j ↦ honest.same a b i j s
           ]
         ]
+
     known : (a b : Entry Op) → Contains (x ∷ zs) a → Contains (x ∷ zs) b → is_before b.stamp a.stamp ≡ true → IsAfter b.stamp.clock a.stamp
     known a b c d before =
         elim (Contains-cases x zs a c) [
           | inl q ↦ elim (Contains-cases x zs b d) [
             | inl p ↦ absurd (both_ways (same_id b.stamp a.stamp) (before_other b.stamp a.stamp before)
-                  (same_id_from_ids b.stamp a.stamp (ap (λ (z : Entry Op). id_of z.stamp) (sym p ∙ q))))
+                (same_id_from_ids b.stamp a.stamp (ap (λ (z : Entry Op). id_of z.stamp) (sym p ∙ q))))
             | inr j ↦ subst (λ (z : Entry Op). IsAfter b.stamp.clock z.stamp) q
-                  (after b j (subst (λ (z : Entry Op). is_before b.stamp z.stamp ≡ true) (sym q) before))
+                (after b j (subst (λ (z : Entry Op). is_before b.stamp z.stamp ≡ true) (sym q) before))
           ]
           | inr i ↦ elim (Contains-cases x zs b d) [
             | inl p ↦ absurd (both_ways (is_before x.stamp a.stamp) (unknown a i) (subst (λ (z : Entry Op). is_before z.stamp a.stamp ≡ true) (sym p) before))
@@ -141,7 +142,7 @@ module _ {Op : Type 0} (zs : List (Entry Op)) (n : ℕ) (r : Replica Op) (may : 
       let found = version_has (members r) r.delivered delivered_stamped may.sound.closed (id_of b.stamp) counted cov in
       let in_delivered : Contains r.delivered found.1 = (found.0, found.2, found.3) in
       let same : found.1 ≡ b = may.honest.same found.1 b (may.inside found.1 (Contains-append_left r.delivered r.waiting found.1 in_delivered)) c
-            (same_id_from_ids found.1.stamp b.stamp found.4) in
+      (same_id_from_ids found.1.stamp b.stamp found.4) in
       subst (λ (z : Entry Op). Contains r.delivered z) same in_delivered
 
   after : (b : Entry Op) → Contains zs b → is_before b.stamp (next_stamp r) ≡ true → IsAfter b.stamp.clock (next_stamp r)
@@ -221,8 +222,8 @@ module _ {Op : Type 0} (zs : List (Entry Op)) (n : ℕ) (r : Replica Op) (may : 
       let x = entry (next_stamp r) op in
       rising-place x r.delivered
       (each_from (λ (e : Entry Op). same_id (next_stamp r) e.stamp ≡ false) r.delivered (λ e c.
-          false_from_ne_true (same_id (next_stamp r) e.stamp) (λ s.
-              new_name e (may.inside e (Contains-append_left r.delivered r.waiting e c)) (sym (same_id_is (next_stamp r) e.stamp s)))))
+      false_from_ne_true (same_id (next_stamp r) e.stamp) (λ s.
+      new_name e (may.inside e (Contains-append_left r.delivered r.waiting e c)) (sym (same_id_is (next_stamp r) e.stamp s)))))
       may.sound.delivered_by_key
 
   edited_named : (op : Op) (i : Id) → 1 ≤ i.seq → covers (next_stamp r).clock i ≡ true → Any (λ (b : Entry Op). id_of b.stamp ≡ i) (edited r op).delivered
@@ -255,14 +256,14 @@ module _ {Op : Type 0} (zs : List (Entry Op)) (n : ℕ) (r : Replica Op) (may : 
       let all = (edited r op).delivered ++ r.waiting in
       let old = r.delivered ++ r.waiting in
       false_from_ne_true (has_name all i) (λ t.
-          let found = named_in all i t in
-          elim (Contains-append_cases (edited r op).delivered r.waiting found.0 found.1) [
-            | inl d ↦ elim (in_edited op found.0 d) [
-              | inl q ↦ unknown e (waiting_inside e c) (subst (λ (j : Id). covers e.stamp.clock j ≡ true) (sym (ap (λ (z : Entry Op). id_of z.stamp) q ∙ found.2)) cov)
-              | inr j ↦ both_ways (has_name old i) none (has_name_from old found.0 i (Contains-append_left r.delivered r.waiting found.0 j) found.2)
-            ]
-            | inr w ↦ both_ways (has_name old i) none (has_name_from old found.0 i (Contains-append_right r.delivered r.waiting found.0 w) found.2)
-          ])
+      let found = named_in all i t in
+      elim (Contains-append_cases (edited r op).delivered r.waiting found.0 found.1) [
+        | inl d ↦ elim (in_edited op found.0 d) [
+          | inl q ↦ unknown e (waiting_inside e c) (subst (λ (j : Id). covers e.stamp.clock j ≡ true) (sym (ap (λ (z : Entry Op). id_of z.stamp) q ∙ found.2)) cov)
+          | inr j ↦ both_ways (has_name old i) none (has_name_from old found.0 i (Contains-append_left r.delivered r.waiting found.0 j) found.2)
+        ]
+        | inr w ↦ both_ways (has_name old i) none (has_name_from old found.0 i (Contains-append_right r.delivered r.waiting found.0 w) found.2)
+      ])
 
   edited_waits : (op : Op) (e : Entry Op) → Contains r.waiting e → WaitsIn ((edited r op).delivered ++ r.waiting) e
   edited_waits op e c =

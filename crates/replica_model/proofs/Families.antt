@@ -1,25 +1,23 @@
 -- What an honest family has, and the steps that keep it honest.
-use Rattle.std.proofs.Common.{◌≡◌, ℕ, ◌+◌, ◌<◌, ◌≤◌, Bool, true, false, List, [], ◌∷◌, ◌++◌, Option, map, refl, ap, sym, ◌∙◌, subst, arith, Contains, length, replicate, inl, inr, ◌⊎◌, ◌≢◌}
-use Rattle.std.specs.Prelude.{nat_eq, not, filter}
+use Rattle.std.proofs.Common.{◌≡◌, ℕ, ◌<◌, ◌≤◌, false, List, [], ◌∷◌, ◌++◌, Option, map, refl, sym, ◌∙◌, subst, arith, Contains, inl, inr, ◌⊎◌, ◌≢◌}
+use Rattle.std.specs.Prelude.{nat_eq, not}
 use Rattle.std.specs.List.{All, AllByRecursion, Any, IsDistinct}
 use Rattle.std.proofs.lemmas.Bool.{ne_eqb}
 use Rattle.std.proofs.lemmas.List.{append-nil, length-replicate}
-use Rattle.std.proofs.lemmas.List.Elements.{All-contains, All-nil, Contains-append_left, Contains-append_right, Contains-append_cases}
-use Rattle.vector_clock.specs.declared.clock.Clock.{Clock}
-use Rattle.vector_clock.specs.declared.clock.Id.{Id}
+use Rattle.std.proofs.lemmas.List.Elements.{All-contains, All-nil, Contains-append_left, Contains-append_cases}
 use Rattle.vector_clock.specs.Clock.{covers, zero_clock}
 use Rattle.vector_clock.specs.Stamp.{IsStamp, id_of}
 use Rattle.crdt_laws.specs.declared.small.Entry.{Entry}
 use Rattle.crdt_laws.specs.Entry.{entry}
 use Rattle.crdt_laws.specs.Sets.{AreIssued, IsClosed, IsHonest, IsRising}
-use Rattle.crdt_laws.specs.Tower.{IsIssued, IsStampOf, IsWithin, Meaning}
+use Rattle.crdt_laws.specs.Tower.{IsIssued, IsWithin, Meaning}
 use Rattle.crdt_laws.proofs.Members.{Contains-cases, Contains-front, Contains-more}
 use Rattle.replica_model.specs.Family.{IsHonestFamily, IsSoundReplica, MayMerge, Thing, WaitsIn, replica, batch, batches, operations, operations_of, replicas}
 use Rattle.replica_model.specs.Replica.{Replica, Batch, edited, exported, left_out, merged, new_replica, next_stamp}
 use Rattle.replica_model.proofs.Edits.{MayEdit, edited_grows, edited_has, edited_sound, honest_edited, in_edited_all, me-edited, next_stamp_is}
 use Rattle.replica_model.proofs.Merged.{in_merged, me-merged, merged_grows, merged_sound}
 use Rattle.replica_model.proofs.Names.{all_from_contains, any_from}
-use Rattle.replica_model.proofs.Pools.{each_from, rising-filter}
+use Rattle.replica_model.proofs.Pools.{rising-filter}
 use Rattle.replica_model.proofs.Ready.{filter_inside, honest_part}
 use Rattle.replica_model.proofs.Things.{batch_injective, batches_have, distinct_push, in_batches, in_operations, in_replicas, in_split, members_more, no_batch, none_distinct, one_by_member, operations_have, replicas-batch, replica_injective, replicas_have, same_members, split_has, split_it}
 
@@ -134,6 +132,7 @@ module _ {State Op : Type 0} (m : Meaning State Op) (n : ℕ) (xs ys : List (Thi
     where
       here : Contains (replicas after) s
       here = replicas_have after s (split_it xs ys (replica s))
+
       owned : (e : Entry Op) → Contains (operations after) e → Any (λ (o : Replica Op). (o.me ≡ e.stamp.member) × Contains o.delivered e) (replicas after)
       owned e c =
           elim (in_after e c) [
@@ -143,12 +142,14 @@ module _ {State Op : Type 0} (m : Meaning State Op) (n : ℕ) (xs ys : List (Thi
             ]
             | inr j ↦ new_owner same grows e j
           ]
+
       sound_after : (o : Replica Op) → Contains (replicas after) o → IsSoundReplica n o
       sound_after o c =
           elim (in_split xs ys (replica s) (replica o) (in_replicas after o c)) [
             | inl q ↦ subst (IsSoundReplica n) (replica_injective s o q) sound
             | inr i ↦ sound_at m n before family o (split_has xs ys (replica r) (replica o) i)
           ]
+
       batch_after : (b : Batch Op) → Contains (batches after) b → IsRising b.ops
       batch_after b c =
           elim (in_split xs ys (replica s) (batch b) (in_batches after b c)) [
@@ -174,10 +175,13 @@ module _ {State Op : Type 0} (m : Meaning State Op) (n : ℕ) (xs ys : List (Thi
     where
       later : List (Thing Op)
       later = xs ++ replica (merged r b) ∷ ys
+
       may : MayMerge r b
       may = may_merge m n all family r b here c
+
       own : (e : Entry Op) → Contains ((merged r b).delivered ++ (merged r b).waiting) e → Contains (operations all) e
       own e d = pooled_inside m n all family r b here c e (in_merged r b may e d)
+
       inside : (e : Entry Op) → Contains (operations (xs ++ replica (merged r b) ∷ ys)) e → Contains (operations all) e
       inside e d =
           elim (in_after m n xs ys r (merged r b) family e d) [
@@ -194,30 +198,40 @@ module _ {State Op : Type 0} (m : Meaning State Op) (n : ℕ) (xs ys : List (Thi
     where
       later : List (Thing Op)
       later = xs ++ replica (edited r op) ∷ ys
+
       x : Entry Op
       x = entry (next_stamp r) op
+
       may : MayEdit (operations all) n r
       may = may_edit m n all family few r here
+
       inside : (e : Entry Op) → Contains (operations (xs ++ replica (edited r op) ∷ ys)) e → Contains (entry (next_stamp r) op ∷ operations all) e
       inside e d =
           elim (in_after m n xs ys r (edited r op) family e d) [
             | inl i ↦ in_edited_all (operations all) n r may op e i
             | inr j ↦ Contains-more (entry (next_stamp r) op) (operations all) e j
           ]
+
       issued : (e : Entry Op) → Contains (operations (xs ++ replica (edited r op) ∷ ys)) e → IsIssued m n e.stamp e.op
       issued e d =
           elim (Contains-cases (entry (next_stamp r) op) (operations all) e (inside e d)) [
             | inl q ↦ subst (λ (z : Entry Op). IsIssued m n z.stamp z.op) q new
             | inr j ↦ issued_at m n all family e j
           ]
+
       own : (e : Entry Op) → Contains ((edited r op).delivered ++ (edited r op).waiting) e
           → Contains (operations all) e ⊎ (((edited r op).me ≡ e.stamp.member) × Contains (edited r op).delivered e)
       own e d =
           elim (Contains-cases (entry (next_stamp r) op) (operations all) e (in_edited_all (operations all) n r may op e d)) [
             | inl q ↦ inr (subst (λ (z : Entry Op). ((edited r op).me ≡ z.stamp.member) × Contains (edited r op).delivered z) q
-                  (me-edited r op, edited_has (operations all) n r may op))
+                (me-edited r op, edited_has (operations all) n r may op))
             | inr j ↦ inl j
           ]
+
+  -- within the limit of sequence numbers
+  pub family_edited_valid : n ≤ 16 → (op : Op) → IsWithin (next_stamp r) → m.valid (next_stamp r) op → IsHonestFamily m n (xs ++ replica (edited r op) ∷ ys)
+  family_edited_valid few op limit valid =
+      family_edited few op (record { stamp = next_stamp_is (operations all) n r (may_edit m n all family few r here) limit; valid = valid })
 
 -- batches come and go
 
@@ -235,8 +249,10 @@ module _ {State Op : Type 0} (m : Meaning State Op) (n : ℕ) (xs ys : List (Thi
     where
       before : List (Thing Op)
       before = xs ++ batch b ∷ ys
+
       same : replicas (xs ++ batch b ∷ ys) ≡ replicas (xs ++ ys)
       same = replicas-batch xs ys b
+
       inside : (e : Entry Op) → Contains (operations (xs ++ ys)) e → Contains (operations (xs ++ batch b ∷ ys)) e
       inside e c = let f = in_operations (xs ++ ys) e c in operations_have (xs ++ batch b ∷ ys) f.0 e (split_has xs ys (batch b) f.0 f.1) f.2
 
@@ -254,8 +270,10 @@ module _ {State Op : Type 0} (m : Meaning State Op) (n : ℕ) (xs ys : List (Thi
     where
       after : List (Thing Op)
       after = xs ++ batch b ∷ ys
+
       same : replicas (xs ++ batch b ∷ ys) ≡ replicas (xs ++ ys)
       same = replicas-batch xs ys b
+
       inside : (e : Entry Op) → Contains (operations (xs ++ batch b ∷ ys)) e → Contains (operations (xs ++ ys)) e
       inside e c =
           let f = in_operations (xs ++ batch b ∷ ys) e c in
@@ -263,6 +281,7 @@ module _ {State Op : Type 0} (m : Meaning State Op) (n : ℕ) (xs ys : List (Thi
             | inl q ↦ part e (subst (λ (z : Thing Op). Contains (operations_of z) e) (sym q) f.2)
             | inr i ↦ operations_have (xs ++ ys) f.0 e i f.2
           ]
+
       by_key : (a : Batch Op) → Contains (batches (xs ++ batch b ∷ ys)) a → IsRising a.ops
       by_key a c =
           elim (in_split xs ys (batch b) (batch a) (in_batches (xs ++ batch b ∷ ys) a c)) [

@@ -1,7 +1,6 @@
 -- What a merge leaves.
-use Rattle.std.proofs.Common.{◌≡◌, ℕ, ◌+◌, ◌<◌, ◌≤◌, Bool, true, false, List, [], ◌∷◌, ◌++◌, refl, ap, sym, ◌∙◌, subst, arith, Contains, length, inl, inr, ◌⊎◌, ◌↔◌}
-use Rattle.std.specs.Prelude.{not, filter, fold, slice_set, nat_le}
-use Rattle.std.specs.List.{All, Any}
+use Rattle.std.proofs.Common.{◌≡◌, ℕ, ◌<◌, List, [], ◌∷◌, ◌++◌, refl, sym, ◌∙◌, subst, Contains, length, inl, inr}
+use Rattle.std.specs.Prelude.{not, slice_set, nat_le}
 use Rattle.std.proofs.Math.ListN.{length-set}
 use Rattle.std.proofs.lemmas.Bool.{cond_both, false_from_ne_true, both_ways}
 use Rattle.std.proofs.lemmas.List.Elements.{All-contains, Contains-append_left, Contains-append_right, Contains-append_cases}
@@ -10,7 +9,6 @@ use Rattle.vector_clock.specs.Clock.{count, join}
 use Rattle.vector_clock.specs.Stamp.{IsStamp}
 use Rattle.crdt_laws.specs.declared.small.Entry.{Entry}
 use Rattle.crdt_laws.specs.Sets.{IsClosed, IsHonest, IsRising, has_name, has_all_of}
-use Rattle.crdt_laws.proofs.Members.{rising_same}
 use Rattle.replica_model.specs.Family.{IsSoundReplica, MayMerge, WaitsIn}
 use Rattle.replica_model.specs.Replica.{Replica, Batch, heard, heard_header, heard_op, merged, pooled, ready, row, unready, version, members}
 use Rattle.replica_model.proofs.Names.{all_from_contains, has_name_from, named_in, Misses}

@@ -1,15 +1,15 @@
 -- Which names a set has, and whether it has all that a clock covers.
-use Rattle.std.proofs.Common.{◌≡◌, ℕ, zero, suc, ◌+◌, ◌<◌, ◌≤◌, Bool, true, false, List, [], ◌∷◌, refl, ap, ap₂, sym, ◌∙◌, arith, Contains, length, get_or, inl, inr, ◌⊎◌, eqb}
+use Rattle.std.proofs.Common.{◌≡◌, ℕ, zero, suc, ◌+◌, ◌<◌, ◌≤◌, Bool, true, false, List, refl, ap, ap₂, sym, ◌∙◌, arith, Contains, get_or, inl, inr, eqb}
 use Rattle.std.specs.Prelude.{◌&&◌}
-use Rattle.std.specs.List.{Any, All, list_any, list_all, range_with_len}
-use Rattle.std.proofs.lemmas.Bool.{and_parts, and_from, and_cases, eqb-true, eq-eqb, cases_eq, leb-true, lt-leb, le-leb, leb-false}
+use Rattle.std.specs.List.{Any, All, list_all, range_with_len}
+use Rattle.std.proofs.lemmas.Bool.{and_parts, and_from, and_cases, eqb-true, eq-eqb, cases_eq, leb-true, le-leb}
 use Rattle.std.proofs.lemmas.List.Elements.{Contains-get_or}
 use Rattle.std.proofs.lemmas.List.Folds.{Any-from_list_any, list_any-from_Any}
 use Rattle.vector_clock.specs.declared.clock.Clock.{Clock}
 use Rattle.vector_clock.specs.declared.clock.Id.{Id}
 use Rattle.vector_clock.specs.declared.stamp.Stamp.{Stamp}
-use Rattle.vector_clock.specs.Clock.{IsClock, count, covers}
-use Rattle.vector_clock.specs.Stamp.{IsStamp, id_of, same_id}
+use Rattle.vector_clock.specs.Clock.{count, covers}
+use Rattle.vector_clock.specs.Stamp.{id_of, same_id}
 use Rattle.crdt_laws.specs.declared.small.Entry.{Entry}
 use Rattle.crdt_laws.specs.Sets.{has_name, has_all_of}
 
@@ -93,7 +93,7 @@ unfolding has_all_of
 from_all_names xs k h =
     in_all (λ m. list_all (λ s. has_name xs (record { member = m; seq = s })) (range_with_len 1 (count k m))) 0 16
     (λ m l u. in_all (λ s. has_name xs (record { member = m; seq = s })) 1 (count k m)
-        (λ s v w. h (record { member = m; seq = s }) (omega arith) v (le-leb s (count k m) (omega arith))))
+    (λ s v w. h (record { member = m; seq = s }) (omega arith) v (le-leb s (count k m) (omega arith))))
 
 -- a name that is missing
 pub record Misses {Op : Type 0} (xs : List (Entry Op)) (k : Clock) : Type 0 where

@@ -1,5 +1,5 @@
 -- All operations that a replica has once a batch has come: they are those of both, each once, by key.
-use Rattle.std.proofs.Common.{◌≡◌, ℕ, ◌+◌, ◌<◌, ◌≤◌, Bool, true, false, List, [], ◌∷◌, ◌++◌, refl, ap, sym, ◌∙◌, subst, arith, Contains, length, inl, inr, ◌⊎◌, ◌↔◌}
+use Rattle.std.proofs.Common.{◌≡◌, Bool, true, false, List, [], ◌∷◌, ◌++◌, subst, Contains, inl, inr}
 use Rattle.std.specs.Prelude.{not, filter}
 use Rattle.std.specs.List.{AllByRecursion}
 use Rattle.std.proofs.lemmas.Bool.{cases_Bool, cond_both, both_ways, not-true, not_from_false, false_from_ne_true}
@@ -7,7 +7,7 @@ use Rattle.std.proofs.lemmas.List.Elements.{recursion_from_All, Contains-append_
 use Rattle.vector_clock.specs.Stamp.{id_of, is_below, same_id}
 use Rattle.vector_clock.proofs.Keys.{key_irreflexive}
 use Rattle.crdt_laws.specs.declared.small.Entry.{Entry}
-use Rattle.crdt_laws.specs.Sets.{AreApart, IsHonest, IsRising, canonical, has_name, together}
+use Rattle.crdt_laws.specs.Sets.{AreApart, IsHonest, IsRising, has_name, together}
 use Rattle.crdt_laws.proofs.Filters.{all-append, all-filter}
 use Rattle.crdt_laws.proofs.Members.{Contains-canonical, Contains-front, Contains-more, at_member}
 use Rattle.crdt_laws.proofs.Place.{rising-canonical}
@@ -42,9 +42,9 @@ rising_apart zs [] h part r = tt
 rising_apart {Op} zs (x ∷ xs) h part r = (
   each_from (λ (e : Entry Op). same_id x.stamp e.stamp ≡ false) xs (λ e c.
       false_from_ne_true (same_id x.stamp e.stamp) (λ s.
-          let same : x ≡ e = h.same x e (part x (Contains-front x xs)) (part e (Contains-more x xs e c)) s in
-          let below = at_member (λ (f : Entry Op). is_below x.stamp f.stamp ≡ true) xs e r.0 c in
-          key_irreflexive e.stamp (subst (λ (z : Entry Op). is_below z.stamp e.stamp ≡ true) same below))),
+      let same : x ≡ e = h.same x e (part x (Contains-front x xs)) (part e (Contains-more x xs e c)) s in
+      let below = at_member (λ (f : Entry Op). is_below x.stamp f.stamp ≡ true) xs e r.0 c in
+      key_irreflexive e.stamp (subst (λ (z : Entry Op). is_below z.stamp e.stamp ≡ true) same below))),
   rising_apart zs xs h (λ e c. part e (Contains-more x xs e c)) r.1,
 )
 
@@ -53,7 +53,7 @@ pub apart-append : {Op : Type 0} (xs ys : List (Entry Op)) → AreApart xs → A
 apart-append [] ys a b h = b
 apart-append {Op} (x ∷ xs) ys a b h = (
   all-append (λ (e : Entry Op). same_id x.stamp e.stamp ≡ false) xs ys a.0
-  (each_from (λ (e : Entry Op). same_id x.stamp e.stamp ≡ false) ys (λ e c. h x e (Contains-front x xs) c)),
+      (each_from (λ (e : Entry Op). same_id x.stamp e.stamp ≡ false) ys (λ e c. h x e (Contains-front x xs) c)),
   apart-append xs ys a.1 b (λ u v c d. h u v (Contains-more x xs u c) d),
 )
 
@@ -65,9 +65,9 @@ rising-together {Op} xs ys a b =
     let new : (Entry Op → Bool) = λ e. not (has_name xs (id_of e.stamp)) in
     rising-canonical (xs ++ filter new ys)
     (apart-append xs (filter new ys) a (apart-filter new ys b) (λ u v c d.
-        false_from_ne_true (same_id u.stamp v.stamp) (λ s.
-            both_ways (has_name xs (id_of v.stamp)) (not-true (has_name xs (id_of v.stamp)) (filter_passed new ys v d))
-            (has_name_from xs u (id_of v.stamp) c (same_id_is u.stamp v.stamp s)))))
+    false_from_ne_true (same_id u.stamp v.stamp) (λ s.
+    both_ways (has_name xs (id_of v.stamp)) (not-true (has_name xs (id_of v.stamp)) (filter_passed new ys v d))
+    (has_name_from xs u (id_of v.stamp) c (same_id_is u.stamp v.stamp s)))))
 
 pub in_together : {Op : Type 0} (xs ys : List (Entry Op)) (e : Entry Op) → Contains (together xs ys) e → Contains (xs ++ ys) e
 unfolding together

@@ -1,19 +1,19 @@
 -- What is ready in an honest set is closed, and what is not ready has cause to wait.
-use Rattle.std.proofs.Common.{◌≡◌, ℕ, ◌+◌, ◌<◌, ◌≤◌, Bool, true, false, List, [], ◌∷◌, refl, ap, sym, ◌∙◌, subst, arith, Contains, length, inl, inr, ◌⊎◌, ◌↔◌}
+use Rattle.std.proofs.Common.{◌≡◌, ◌<◌, ◌≤◌, Bool, true, false, List, [], ◌∷◌, ap, sym, ◌∙◌, subst, arith, Contains, inl, inr, ◌⊎◌}
 use Rattle.std.specs.Prelude.{not, filter}
-use Rattle.std.specs.List.{Any, All}
+use Rattle.std.specs.List.{Any}
 use Rattle.std.proofs.lemmas.Bool.{cases_Bool, cases_lt, cond_both, leb-true, le-leb, both_ways, not-true, not_from_false}
 use Rattle.std.proofs.lemmas.List.Elements.{All-filter, All-contains, All-contains_itself, filter_passes}
 use Rattle.vector_clock.specs.declared.clock.Clock.{Clock}
 use Rattle.vector_clock.specs.declared.clock.Id.{Id}
 use Rattle.vector_clock.specs.declared.stamp.Stamp.{Stamp}
 use Rattle.vector_clock.specs.Clock.{IsAtMost, IsClock, count, covers}
-use Rattle.vector_clock.specs.Stamp.{IsAfter, IsStamp, id_of, is_before, same_id}
+use Rattle.vector_clock.specs.Stamp.{IsStamp, id_of, is_before, same_id}
 use Rattle.crdt_laws.specs.declared.small.Entry.{Entry}
-use Rattle.crdt_laws.specs.Sets.{IsHonest, IsClosed, IsRising, has_name, has_all_of}
+use Rattle.crdt_laws.specs.Sets.{IsHonest, IsClosed, has_all_of}
 use Rattle.crdt_laws.proofs.Members.{Contains-cases, Contains-front, Contains-more}
 use Rattle.replica_model.specs.Replica.{ready, unready}
-use Rattle.replica_model.proofs.Names.{any_from, has_name_from, named_in, same_id_from_ids, all_names, from_all_names, missing_name, Misses}
+use Rattle.replica_model.proofs.Names.{any_from, has_name_from, named_in, all_names, from_all_names, missing_name, Misses}
 
 -- filters
 
@@ -93,7 +93,7 @@ ready_closed {Op} xs stamped honest = record { each = each }
         let b = found.0 in
         let known = covered_knows xs honest a b inside found.1 (subst (λ j. covers a.stamp.clock j ≡ true) (sym found.2) covered) in
         let whole : has_all_of xs b.stamp.clock ≡ true = from_all_names xs b.stamp.clock
-              (λ j w n d. all_names xs a.stamp.clock all j w n (covers_on b.stamp.clock a.stamp.clock j known d)) in
+        (λ j w n d. all_names xs a.stamp.clock all j w n (covers_on b.stamp.clock a.stamp.clock j known d)) in
         any_from (λ (e : Entry Op). id_of e.stamp ≡ i) (ready xs) b (filter_has p xs b found.1 whole) found.2
 
 -- all of a closed part is ready
@@ -102,8 +102,8 @@ pub closed_ready : {Op : Type 0} (xs ys : List (Entry Op)) → ((e : Entry Op) �
 closed_ready {Op} xs ys stamped closed part e c =
     filter_has (λ (e : Entry Op). has_all_of xs e.stamp.clock) xs e (part e c)
     (from_all_names xs e.stamp.clock (λ i w counted covered.
-        let found = closed.each e i c counted covered in
-        has_name_from xs found.1 i (part found.1 (found.0, found.2, found.3)) found.4))
+    let found = closed.each e i c counted covered in
+    has_name_from xs found.1 i (part found.1 (found.0, found.2, found.3)) found.4))
 
 -- an operation that is not ready misses a name
 pub unready_misses : {Op : Type 0} (xs : List (Entry Op)) (e : Entry Op) → Contains (unready xs) e → Misses xs e.stamp.clock

@@ -1,23 +1,19 @@
 -- What a set of operations knows of: the version covers just the names of a closed set.
-use Rattle.std.proofs.Common.{◌≡◌, ℕ, ◌+◌, ◌<◌, ◌≤◌, Bool, true, false, List, [], ◌∷◌, max, get_or, set, replicate, refl, ap, ap₂, sym, ◌∙◌, subst, arith, Contains, length, inl, inr, ◌⊎◌}
+use Rattle.std.proofs.Common.{◌≡◌, ℕ, ◌+◌, ◌<◌, ◌≤◌, true, List, [], ◌∷◌, max, replicate, refl, ap, ap₂, sym, ◌∙◌, subst, arith, Contains, length, inl, inr, ◌⊎◌}
 use Rattle.std.specs.Prelude.{fold}
 use Rattle.std.specs.List.{Any}
-use Rattle.std.proofs.Math.ListN.{length-set}
 use Rattle.std.proofs.lemmas.Bool.{cases_eq, cases_lt, leb-true, le-leb}
-use Rattle.std.proofs.lemmas.List.{get_or-replicate, get_or-set_same, get_or-set_other, get_or_past, length-replicate}
+use Rattle.std.proofs.lemmas.List.{get_or-replicate, get_or-set_same, get_or-set_other, get_or_past}
 use Rattle.vector_clock.specs.declared.clock.Clock.{Clock}
 use Rattle.vector_clock.specs.declared.clock.Id.{Id}
-use Rattle.vector_clock.specs.declared.stamp.Stamp.{Stamp}
 use Rattle.vector_clock.specs.Clock.{IsAtMost, IsClock, count, covers, join, max_entry, with_entry, zero_clock}
-use Rattle.vector_clock.specs.Stamp.{IsStamp, id_of}
+use Rattle.vector_clock.specs.Stamp.{id_of}
 use Rattle.vector_clock.proofs.Clocks.{at_most_below, count-clock_by, length-clock_by, n-clock_by}
 use Rattle.crdt_laws.specs.declared.small.Entry.{Entry}
 use Rattle.crdt_laws.specs.Sets.{IsClosed}
 use Rattle.crdt_laws.specs.Tower.{IsStampOf}
 use Rattle.crdt_laws.proofs.Members.{Contains-cases, Contains-front, Contains-more}
 use Rattle.replica_model.specs.Replica.{version}
-use Rattle.replica_model.proofs.Names.{any_from}
-use Rattle.replica_model.proofs.Ready.{covers_on}
 
 -- a clock joined with those of operations
 abbrev joined : {Op : Type 0} → Clock → List (Entry Op) → Clock
@@ -124,10 +120,10 @@ module _ {Op : Type 0} (n : ℕ) (xs : List (Entry Op)) (stamped : (e : Entry Op
     empty_past = λ m h.
         let s = n-version n xs in
         let z : count (version n xs) m ≤ 0 = version_below n xs m 0 (λ e c.
-              let t = stamped e c in
-              let past : e.stamp.clock.n ≤ m = omega (arith, s, t.members) in
-              let none = t.stamp.clock.empty_past m past in
-              omega (arith, none)) in
+        let t = stamped e c in
+        let past : e.stamp.clock.n ≤ m = omega (arith, s, t.members) in
+        let none = t.stamp.clock.empty_past m past in
+        omega (arith, none)) in
         omega arith;
   }
 

@@ -1,5 +1,5 @@
 -- The replicas and batches of one document, wherever they are, and when they are as honest members make them.
-use Rattle.std.specs.Prelude.{◌≡◌, ℕ, ◌+◌, ◌<◌, ◌≤◌, List, [], ◌∷◌, ◌++◌, false, IsTrue, length, map, nat_eq}
+use Rattle.std.specs.Prelude.{◌≡◌, ℕ, ◌<◌, ◌≤◌, List, [], ◌∷◌, ◌++◌, false, IsTrue, length, map, nat_eq}
 use Rattle.std.specs.List.{All, Any, Contains, IsDistinct, flat_map}
 use Rattle.vector_clock.specs.declared.clock.Id.{Id}
 use Rattle.vector_clock.specs.Clock.{covers}

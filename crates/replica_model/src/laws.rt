@@ -1,10 +1,12 @@
-//! What merges leave, stated over the definitions. Each law is the contract of a function that does nothing.
-ghost use Rattle.std.specs.Prelude.{◌≡◌, List, ◌++◌, ◌↔◌};
-ghost use Rattle.std.specs.List.{Contains};
+//! What merges leave, and what keeps a family honest. Each law is the contract of a function that does nothing.
+ghost use Rattle.std.specs.Prelude.{◌≡◌, ◌≢◌, ℕ, ◌<◌, ◌≤◌, List, [], ◌∷◌, ◌++◌, ◌↔◌, Option};
+ghost use Rattle.std.specs.List.{All, Contains};
 ghost use Rattle.crdt_laws.specs.declared.small.Entry.{Entry};
 ghost use Rattle.crdt_laws.specs.Sets.{IsClosed, IsHonest};
-ghost use Rattle.replica_model.specs.Replica.{Replica, Batch, merged};
-ghost use Rattle.replica_model.specs.Family.{MayMerge};
+ghost use Rattle.replica_model.specs.Replica.{Replica, Batch, edited, exported, merged, new_replica, next_stamp};
+ghost use Rattle.replica_model.specs.Family.{Thing, replica, batch, replicas, IsHonestFamily, MayMerge};
+
+use crdt_laws::Tower;
 
 /// A merge delivers a closed set. It loses nothing that was in, and neither loses nor makes an operation.
 pub fn merging<Op>()
@@ -23,4 +25,34 @@ pub fn merging_again<Op>()
 pub fn merging_in_either_order<Op>()
     ensures delivered { (r : Replica Op) (a b : Batch Op) → MayMerge r a → MayMerge r b → IsHonest (((r.delivered ++ r.waiting) ++ a.ops) ++ b.ops) → (merged (merged r a) b).delivered ≡ (merged (merged r b) a).delivered }
     ensures waiting { (r : Replica Op) (a b : Batch Op) → MayMerge r a → MayMerge r b → IsHonest (((r.delivered ++ r.waiting) ++ a.ops) ++ b.ops) → (merged (merged r a) b).waiting ≡ (merged (merged r b) a).waiting }
+{}
+
+/// In an honest family each replica may merge each batch.
+pub fn family_meets<T: Tower>(tower: &T)
+    ensures { (n : ℕ) (ts : List (Thing T.Op)) (r : Replica T.Op) (b : Batch T.Op) → IsHonestFamily (T.meaning tower.now) n ts
+        → Contains ts (replica r) → Contains ts (batch b) → MayMerge r b }
+{}
+
+/// An empty family is honest, and stays so when a member makes its first replica.
+pub fn family_begins<T: Tower>(tower: &T)
+    ensures empty { (n : ℕ) → IsHonestFamily (T.meaning tower.now) n [] }
+    ensures joined { (n : ℕ) (ts : List (Thing T.Op)) (doc : List ℕ) (me : ℕ) → IsHonestFamily (T.meaning tower.now) n ts
+        → me < n → All (λ r. r.me ≢ me) (replicas ts) → IsHonestFamily (T.meaning tower.now) n (ts ++ replica (new_replica doc me n) ∷ []) }
+{}
+
+/// An honest family stays honest when a member edits its replica by a valid operation, or merges a batch of the family.
+pub fn family_goes_on<T: Tower>(tower: &T)
+    ensures edited { (n : ℕ) (xs ys : List (Thing T.Op)) (r : Replica T.Op) (op : T.Op) → n ≤ 16 → IsHonestFamily (T.meaning tower.now) n (xs ++ replica r ∷ ys)
+        → (T.meaning tower.now).valid (next_stamp r) op → IsHonestFamily (T.meaning tower.now) n (xs ++ replica (edited r op) ∷ ys) }
+    ensures merged { (n : ℕ) (xs ys : List (Thing T.Op)) (r : Replica T.Op) (b : Batch T.Op) → IsHonestFamily (T.meaning tower.now) n (xs ++ replica r ∷ ys)
+        → Contains (xs ++ replica r ∷ ys) (batch b) → IsHonestFamily (T.meaning tower.now) n (xs ++ replica (merged r b) ∷ ys) }
+{}
+
+/// An honest family stays honest when a replica is exported, be it in the place of an older batch, and when a batch is lost.
+pub fn family_sends<T: Tower>(tower: &T)
+    ensures exported { (n : ℕ) (xs ys : List (Thing T.Op)) (r : Replica T.Op) (to : Option ℕ) → IsHonestFamily (T.meaning tower.now) n (xs ++ ys)
+        → Contains (xs ++ ys) (replica r) → IsHonestFamily (T.meaning tower.now) n (xs ++ batch (exported r to) ∷ ys) }
+    ensures exported_over { (n : ℕ) (xs ys : List (Thing T.Op)) (r : Replica T.Op) (b : Batch T.Op) (to : Option ℕ) → IsHonestFamily (T.meaning tower.now) n (xs ++ batch b ∷ ys)
+        → Contains (xs ++ batch b ∷ ys) (replica r) → IsHonestFamily (T.meaning tower.now) n (xs ++ batch (exported r to) ∷ ys) }
+    ensures lost { (n : ℕ) (xs ys : List (Thing T.Op)) (b : Batch T.Op) → IsHonestFamily (T.meaning tower.now) n (xs ++ batch b ∷ ys) → IsHonestFamily (T.meaning tower.now) n (xs ++ ys) }
 {}
