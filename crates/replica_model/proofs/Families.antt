@@ -166,12 +166,23 @@ module _ {State Op : Type 0} (m : Meaning State Op) (n : ℕ) (xs ys : List (Thi
   here : Contains all (replica r)
   here = split_it xs ys (replica r)
 
+  own_merged : (b : Batch Op) → Contains (xs ++ replica r ∷ ys) (batch b) → (e : Entry Op) → Contains ((merged r b).delivered ++ (merged r b).waiting) e → Contains (operations all) e
+  own_merged b c e d = pooled_inside m n all family r b here c e (in_merged r b (may_merge m n all family r b here c) e d)
+
+  pub in_family_merged : (b : Batch Op) → Contains (xs ++ replica r ∷ ys) (batch b)
+      → (e : Entry Op) → Contains (operations (xs ++ replica (merged r b) ∷ ys)) e → Contains (operations (xs ++ replica r ∷ ys)) e
+  in_family_merged b c e d =
+      elim (in_after m n xs ys r (merged r b) family e d) [
+        | inl i ↦ own_merged b c e i
+        | inr j ↦ j
+      ]
+
   pub family_merged : (b : Batch Op) → Contains (xs ++ replica r ∷ ys) (batch b) → IsHonestFamily m n (xs ++ replica (merged r b) ∷ ys)
   family_merged b c =
       in_place_of m n xs ys r (merged r b) family (me-merged r b) (merged_sound r b may n (sound_at m n all family r here)) (merged_grows r b may)
-      (honest_part (operations all) (operations later) family.honest inside)
-      (all_from_contains (λ (e : Entry Op). IsIssued m n e.stamp e.op) (operations later) (λ e d. issued_at m n all family e (inside e d)))
-      (λ e d. inl (own e d))
+      (honest_part (operations all) (operations later) family.honest (in_family_merged b c))
+      (all_from_contains (λ (e : Entry Op). IsIssued m n e.stamp e.op) (operations later) (λ e d. issued_at m n all family e (in_family_merged b c e d)))
+      (λ e d. inl (own_merged b c e d))
     where
       later : List (Thing Op)
       later = xs ++ replica (merged r b) ∷ ys
@@ -179,42 +190,30 @@ module _ {State Op : Type 0} (m : Meaning State Op) (n : ℕ) (xs ys : List (Thi
       may : MayMerge r b
       may = may_merge m n all family r b here c
 
-      own : (e : Entry Op) → Contains ((merged r b).delivered ++ (merged r b).waiting) e → Contains (operations all) e
-      own e d = pooled_inside m n all family r b here c e (in_merged r b may e d)
-
-      inside : (e : Entry Op) → Contains (operations (xs ++ replica (merged r b) ∷ ys)) e → Contains (operations all) e
-      inside e d =
-          elim (in_after m n xs ys r (merged r b) family e d) [
-            | inl i ↦ own e i
-            | inr j ↦ j
-          ]
+  pub in_family_edited : n ≤ 16 → (op : Op) → (e : Entry Op) → Contains (operations (xs ++ replica (edited r op) ∷ ys)) e
+      → Contains (entry (next_stamp r) op ∷ operations (xs ++ replica r ∷ ys)) e
+  in_family_edited few op e d =
+      elim (in_after m n xs ys r (edited r op) family e d) [
+        | inl i ↦ in_edited_all (operations all) n r (may_edit m n all family few r here) op e i
+        | inr j ↦ Contains-more (entry (next_stamp r) op) (operations all) e j
+      ]
 
   pub family_edited : n ≤ 16 → (op : Op) → IsIssued m n (next_stamp r) op → IsHonestFamily m n (xs ++ replica (edited r op) ∷ ys)
   family_edited few op new =
       in_place_of m n xs ys r (edited r op) family (me-edited r op) (edited_sound (operations all) n r may op) (edited_grows (operations all) n r may op)
-      (honest_part (entry (next_stamp r) op ∷ operations all) (operations later) (honest_edited (operations all) n r may op) inside)
+      (honest_part (entry (next_stamp r) op ∷ operations all) (operations later) (honest_edited (operations all) n r may op) (in_family_edited few op))
       (all_from_contains (λ (e : Entry Op). IsIssued m n e.stamp e.op) (operations later) issued)
       own
     where
       later : List (Thing Op)
       later = xs ++ replica (edited r op) ∷ ys
 
-      x : Entry Op
-      x = entry (next_stamp r) op
-
       may : MayEdit (operations all) n r
       may = may_edit m n all family few r here
 
-      inside : (e : Entry Op) → Contains (operations (xs ++ replica (edited r op) ∷ ys)) e → Contains (entry (next_stamp r) op ∷ operations all) e
-      inside e d =
-          elim (in_after m n xs ys r (edited r op) family e d) [
-            | inl i ↦ in_edited_all (operations all) n r may op e i
-            | inr j ↦ Contains-more (entry (next_stamp r) op) (operations all) e j
-          ]
-
       issued : (e : Entry Op) → Contains (operations (xs ++ replica (edited r op) ∷ ys)) e → IsIssued m n e.stamp e.op
       issued e d =
-          elim (Contains-cases (entry (next_stamp r) op) (operations all) e (inside e d)) [
+          elim (Contains-cases (entry (next_stamp r) op) (operations all) e (in_family_edited few op e d)) [
             | inl q ↦ subst (λ (z : Entry Op). IsIssued m n z.stamp z.op) q new
             | inr j ↦ issued_at m n all family e j
           ]
@@ -236,12 +235,15 @@ module _ {State Op : Type 0} (m : Meaning State Op) (n : ℕ) (xs ys : List (Thi
 -- batches come and go
 
 module _ {State Op : Type 0} (m : Meaning State Op) (n : ℕ) (xs ys : List (Thing Op)) where
+  pub in_family_lost : (b : Batch Op) → (e : Entry Op) → Contains (operations (xs ++ ys)) e → Contains (operations (xs ++ batch b ∷ ys)) e
+  in_family_lost b e c = let f = in_operations (xs ++ ys) e c in operations_have (xs ++ batch b ∷ ys) f.0 e (split_has xs ys (batch b) f.0 f.1) f.2
+
   pub family_lost : (b : Batch Op) → IsHonestFamily m n (xs ++ batch b ∷ ys) → IsHonestFamily m n (xs ++ ys)
   family_lost b family = record {
     one_each = subst (λ (l : List (Replica Op)). IsDistinct nat_eq (map (λ r. r.me) l)) same family.one_each;
-    honest = honest_part (operations before) (operations (xs ++ ys)) family.honest inside;
-    issued = all_from_contains (λ (e : Entry Op). IsIssued m n e.stamp e.op) (operations (xs ++ ys)) (λ e c. issued_at m n before family e (inside e c));
-    owned = λ e c. subst (λ (l : List (Replica Op)). Any (λ (o : Replica Op). (o.me ≡ e.stamp.member) × Contains o.delivered e) l) same (family.owned e (inside e c));
+    honest = honest_part (operations before) (operations (xs ++ ys)) family.honest (in_family_lost b);
+    issued = all_from_contains (λ (e : Entry Op). IsIssued m n e.stamp e.op) (operations (xs ++ ys)) (λ e c. issued_at m n before family e (in_family_lost b e c));
+    owned = λ e c. subst (λ (l : List (Replica Op)). Any (λ (o : Replica Op). (o.me ≡ e.stamp.member) × Contains o.delivered e) l) same (family.owned e (in_family_lost b e c));
     sound = subst (λ (l : List (Replica Op)). All (IsSoundReplica n) l) same family.sound;
     batches_by_key = all_from_contains (λ (b : Batch Op). IsRising b.ops) (batches (xs ++ ys))
         (λ a c. batch_at m n before family a (split_has xs ys (batch b) (batch a) (in_batches (xs ++ ys) a c)));
@@ -253,8 +255,14 @@ module _ {State Op : Type 0} (m : Meaning State Op) (n : ℕ) (xs ys : List (Thi
       same : replicas (xs ++ batch b ∷ ys) ≡ replicas (xs ++ ys)
       same = replicas-batch xs ys b
 
-      inside : (e : Entry Op) → Contains (operations (xs ++ ys)) e → Contains (operations (xs ++ batch b ∷ ys)) e
-      inside e c = let f = in_operations (xs ++ ys) e c in operations_have (xs ++ batch b ∷ ys) f.0 e (split_has xs ys (batch b) f.0 f.1) f.2
+  pub in_family_sent : (b : Batch Op) → ((e : Entry Op) → Contains b.ops e → Contains (operations (xs ++ ys)) e)
+      → (e : Entry Op) → Contains (operations (xs ++ batch b ∷ ys)) e → Contains (operations (xs ++ ys)) e
+  in_family_sent b part e c =
+      let f = in_operations (xs ++ batch b ∷ ys) e c in
+      elim (in_split xs ys (batch b) f.0 f.1) [
+        | inl q ↦ part e (subst (λ (z : Thing Op). Contains (operations_of z) e) (sym q) f.2)
+        | inr i ↦ operations_have (xs ++ ys) f.0 e i f.2
+      ]
 
   -- a batch by key, of operations that are somewhere
   pub family_sent : (b : Batch Op) → IsHonestFamily m n (xs ++ ys) → IsRising b.ops → ((e : Entry Op) → Contains b.ops e → Contains (operations (xs ++ ys)) e)
@@ -275,12 +283,7 @@ module _ {State Op : Type 0} (m : Meaning State Op) (n : ℕ) (xs ys : List (Thi
       same = replicas-batch xs ys b
 
       inside : (e : Entry Op) → Contains (operations (xs ++ batch b ∷ ys)) e → Contains (operations (xs ++ ys)) e
-      inside e c =
-          let f = in_operations (xs ++ batch b ∷ ys) e c in
-          elim (in_split xs ys (batch b) f.0 f.1) [
-            | inl q ↦ part e (subst (λ (z : Thing Op). Contains (operations_of z) e) (sym q) f.2)
-            | inr i ↦ operations_have (xs ++ ys) f.0 e i f.2
-          ]
+      inside = in_family_sent b part
 
       by_key : (a : Batch Op) → Contains (batches (xs ++ batch b ∷ ys)) a → IsRising a.ops
       by_key a c =
@@ -300,24 +303,47 @@ unfolding exported
 exported_rises {Op} r to h = rising-filter (λ (e : Entry Op). not (covers (left_out r to) (id_of e.stamp))) r.delivered h
 
 module _ {State Op : Type 0} (m : Meaning State Op) (n : ℕ) (xs ys : List (Thing Op)) (r : Replica Op) (to : Option ℕ) where
+  part_exported : IsHonestFamily m n (xs ++ ys) → Contains (xs ++ ys) (replica r) → (e : Entry Op) → Contains (exported r to).ops e → Contains (operations (xs ++ ys)) e
+  part_exported family c e d = replica_inside m n (xs ++ ys) family r c e (Contains-append_left r.delivered r.waiting e (in_exported r to e d))
+
+  pub in_family_exported : IsHonestFamily m n (xs ++ ys) → Contains (xs ++ ys) (replica r)
+      → (e : Entry Op) → Contains (operations (xs ++ batch (exported r to) ∷ ys)) e → Contains (operations (xs ++ ys)) e
+  in_family_exported family c = in_family_sent m n xs ys (exported r to) (part_exported family c)
+
   pub family_exported : IsHonestFamily m n (xs ++ ys) → Contains (xs ++ ys) (replica r) → IsHonestFamily m n (xs ++ batch (exported r to) ∷ ys)
   family_exported family c =
-      family_sent m n xs ys (exported r to) family (exported_rises r to (sound_at m n (xs ++ ys) family r c).delivered_by_key)
-      (λ e d. replica_inside m n (xs ++ ys) family r c e (Contains-append_left r.delivered r.waiting e (in_exported r to e d)))
+      family_sent m n xs ys (exported r to) family (exported_rises r to (sound_at m n (xs ++ ys) family r c).delivered_by_key) (part_exported family c)
+
+  -- the replica is not the batch
+  other_stays : (b : Batch Op) → Contains (xs ++ batch b ∷ ys) (replica r) → Contains (xs ++ ys) (replica r)
+  other_stays b c =
+      elim (in_split xs ys (batch b) (replica r) c) [
+        | inl q ↦ absurd (no_batch b r q)
+        | inr i ↦ i
+      ]
+
+  pub in_family_exported_over : (b : Batch Op) → IsHonestFamily m n (xs ++ batch b ∷ ys) → Contains (xs ++ batch b ∷ ys) (replica r)
+      → (e : Entry Op) → Contains (operations (xs ++ batch (exported r to) ∷ ys)) e → Contains (operations (xs ++ batch b ∷ ys)) e
+  in_family_exported_over b family c e d =
+      in_family_lost m n xs ys b e (in_family_exported (family_lost m n xs ys b family) (other_stays b c) e d)
 
   -- in the place of a batch
   pub family_exported_over : (b : Batch Op) → IsHonestFamily m n (xs ++ batch b ∷ ys) → Contains (xs ++ batch b ∷ ys) (replica r) → IsHonestFamily m n (xs ++ batch (exported r to) ∷ ys)
-  family_exported_over b family c =
-      family_exported (family_lost m n xs ys b family)
-      (elim (in_split xs ys (batch b) (replica r) c) [
-        | inl q ↦ absurd (no_batch b r q)
-        | inr i ↦ i
-      ])
+  family_exported_over b family c = family_exported (family_lost m n xs ys b family) (other_stays b c)
 
-pub family_exported_last : {State Op : Type 0} (m : Meaning State Op) (n : ℕ) (ts : List (Thing Op)) (r : Replica Op) (to : Option ℕ)
-    → IsHonestFamily m n ts → Contains ts (replica r) → IsHonestFamily m n (ts ++ batch (exported r to) ∷ [])
-family_exported_last {State} {Op} m n ts r to family c =
-    family_exported m n ts [] r to (subst (IsHonestFamily m n) (sym (append-nil ts)) family) (subst (λ (l : List (Thing Op)). Contains l (replica r)) (sym (append-nil ts)) c)
+module _ {State Op : Type 0} (m : Meaning State Op) (n : ℕ) (ts : List (Thing Op)) (r : Replica Op) (to : Option ℕ) (family : IsHonestFamily m n ts) (there : Contains ts (replica r)) where
+  family' : IsHonestFamily m n (ts ++ [])
+  family' = subst (IsHonestFamily m n) (sym (append-nil ts)) family
+
+  there' : Contains (ts ++ []) (replica r)
+  there' = subst (λ (l : List (Thing Op)). Contains l (replica r)) (sym (append-nil ts)) there
+
+  pub family_exported_last : IsHonestFamily m n (ts ++ batch (exported r to) ∷ [])
+  family_exported_last = family_exported m n ts [] r to family' there'
+
+  pub in_family_exported_last : (e : Entry Op) → Contains (operations (ts ++ batch (exported r to) ∷ [])) e → Contains (operations ts) e
+  in_family_exported_last e c =
+      subst (λ (l : List (Thing Op)). Contains (operations l) e) (append-nil ts) (in_family_exported m n ts [] r to family' there' e c)
 
 -- a new member
 
@@ -410,6 +436,13 @@ pub family_joined : {State Op : Type 0} (m : Meaning State Op) (n : ℕ) (ts : L
 unfolding new_replica
 family_joined m n ts doc me family h none =
     family_with m n ts (new_replica doc me n) family (new_sound doc me n h) (new_has_nothing doc me n) none
+
+pub in_family_joined : {State Op : Type 0} (m : Meaning State Op) (n : ℕ) (ts : List (Thing Op)) (doc : List ℕ) (me : ℕ)
+    → IsHonestFamily m n ts → me < n → All (λ r. r.me ≢ me) (replicas ts)
+    → (e : Entry Op) → Contains (operations (ts ++ replica (new_replica doc me n) ∷ [])) e → Contains (operations ts) e
+unfolding new_replica
+in_family_joined m n ts doc me family h none =
+    inside m n ts (new_replica doc me n) family (new_sound doc me n h) (new_has_nothing doc me n) none
 
 pub family_empty : {State Op : Type 0} (m : Meaning State Op) (n : ℕ) → IsHonestFamily m n []
 family_empty {State} {Op} m n = record {
