@@ -1,12 +1,10 @@
 -- A lab with a thing put under a name.
-use Rattle.std.proofs.Common.{◌≡◌, ℕ, Bool, true, false, List, [], ◌∷◌, ◌++◌, Option, None, Some, cond, map, refl, ap, sym, ◌∙◌, subst, inl, inr, ◌⊎◌}
+use Rattle.std.proofs.Common.{◌≡◌, ℕ, true, false, List, [], ◌∷◌, ◌++◌, None, Some, cond, map, refl, ap, sym, ◌∙◌, subst, inl, inr}
 use Rattle.std.specs.List.{AllByRecursion, IsDistinct}
-use Rattle.std.specs.Map.{lookup}
 use Rattle.std.specs.Str.{bytes_eq}
 use Rattle.std.proofs.lemmas.Bool.{both_ways, cases_Bool, cond-false, cond-true, false_from_ne_true}
 use Rattle.std.proofs.lemmas.Map.Keys.{IsDistinct-cons, IsDistinct-head, IsDistinct-tail}
 use Rattle.std.proofs.lemmas.Slice.Eq.{bytes_eq-Decides}
-use Rattle.crdt_laws.proofs.Filters.{all-append, all_weaker}
 use Rattle.replica_model.specs.Family.{Thing}
 use Rattle.lab_model.specs.Honest.{things}
 use Rattle.lab_model.specs.Lab.{Lab, thing_at, with_thing}
@@ -73,7 +71,7 @@ others_with {Op} a (pair ∷ lab) name s h k =
       | false ↦ (k.0, others_with a lab name s h k.1)
     ]
 
-none_distinct : IsDistinct bytes_eq []
+pub none_distinct : IsDistinct bytes_eq []
 unfolding IsDistinct
 none_distinct = tt
 

@@ -1,21 +1,20 @@
 -- Fair lines keep a lab honest.
-use Rattle.std.proofs.Common.{◌≡◌, ℕ, zero, suc, ◌+◌, ◌^◌, ◌<◌, ◌≤◌, Bool, true, false, List, [], ◌∷◌, ◌++◌, Option, None, Some, Result, Ok, Err, map, refl, ap, sym, ◌∙◌, subst, arith, Contains, length, inl, inr, ◌⊎◌, ◌≢◌}
+use Rattle.std.proofs.Common.{◌≡◌, ℕ, ◌+◌, ◌^◌, ◌<◌, ◌≤◌, List, [], ◌∷◌, ◌++◌, Option, None, Some, Result, Ok, append_assoc, refl, ap, sym, ◌∙◌, subst, arith, Contains, length, inl, inr, ◌⊎◌, ◌≢◌}
 use Rattle.std.specs.List.{All}
-use Rattle.std.specs.Str.{bytes_eq}
 use Rattle.std.proofs.lemmas.Bool.{cases_eq}
 use Rattle.std.proofs.lemmas.List.{append-nil}
-use Rattle.std.proofs.lemmas.List.Elements.{All-contains, Contains-append_left}
-use Rattle.vector_clock.specs.declared.clock.Clock.{Clock}
+use Rattle.std.proofs.lemmas.List.Elements.{All-contains, All-nil, Contains-append_left}
 use Rattle.vector_clock.specs.declared.stamp.Stamp.{Stamp}
 use Rattle.vector_clock.specs.Clock.{count}
 use Rattle.crdt_laws.specs.declared.small.Entry.{Entry}
 use Rattle.crdt_laws.specs.Entry.{entry}
+use Rattle.crdt_laws.specs.Sets.{IsClosed}
 use Rattle.crdt_laws.specs.Tower.{IsIssued, IsStampOf, IsWithin, Meaning, max_seq}
 use Rattle.crdt_laws.proofs.Members.{Contains-cases}
-use Rattle.replica_model.specs.Family.{IsHonestFamily, Thing, replica, batch, replicas, operations}
+use Rattle.replica_model.specs.Family.{IsHonestFamily, MayMerge, Thing, replica, batch, replicas, operations}
 use Rattle.replica_model.specs.Replica.{Replica, Batch, edited, exported, members, merged, new_replica, next_stamp, version}
 use Rattle.replica_model.proofs.Edits.{doc-edited, next_stamp_is}
-use Rattle.replica_model.proofs.Families.{doc-new_replica, family_edited, family_exported_last, family_exported_over, family_joined, family_merged, in_family_edited, in_family_exported_last, in_family_exported_over, in_family_joined, in_family_merged, may_edit, replica_inside}
+use Rattle.replica_model.proofs.Families.{doc-new_replica, family_empty, family_edited, family_exported_last, family_exported_over, family_joined, family_merged, in_family_edited, in_family_exported_last, in_family_exported_over, in_family_joined, in_family_merged, may_edit, may_merge, replica_inside, sound_at}
 use Rattle.replica_model.proofs.Merged.{doc-merged}
 use Rattle.replica_model.proofs.Names.{all_from_contains}
 use Rattle.replica_model.proofs.Things.{in_split, split_has, split_it}
@@ -24,11 +23,11 @@ use Rattle.lab_model.specs.declared.command.Command.{Command}
 use Rattle.lab_model.specs.declared.command.Command.TheVariants.{New, Edit, Show, Export, Merge}
 use Rattle.lab_model.specs.declared.command.Verb.{Verb}
 use Rattle.lab_model.specs.declared.refusal.Refusal.{Refusal}
-use Rattle.lab_model.specs.Honest.{AreFair, IsFairCommand, IsHonestLab, doc_of, things}
-use Rattle.lab_model.specs.Lab.{Effect, Lab, act, act_on, edit_under, export_under, lab_run, lab_step, merge_under, new_under, outcome_of, pair_members, pair_text, show_under, thing_at, with_thing}
+use Rattle.lab_model.specs.Honest.{AreFair, CountAtMost, MakesValid, IsFairCommand, IsHonestLab, doc_of, things}
+use Rattle.lab_model.specs.Lab.{Effect, Lab, act_on, edit_under, export_under, lab_run, lab_step, merge_under, new_under, outcome_of, pair_members, pair_text, show_under, thing_at, with_thing}
 use Rattle.lab_model.specs.Line.{command_of}
 use Rattle.lab_model.proofs.Commands.{IsReadable, command_readable}
-use Rattle.lab_model.proofs.Places.{Stands, distinct_with, stands, stands_last}
+use Rattle.lab_model.proofs.Places.{Stands, distinct_with, none_distinct, stands, stands_last}
 
 -- no clock of an operation counts more than k
 abbrev pub Counts : {Op : Type 0} → ℕ → List (Thing Op) → Type 0
@@ -149,10 +148,10 @@ module _ {State Op : Type 0} (m : Meaning State Op) (made : Verb → ℕ → Op)
       let stamp = next_stamp_is (operations all) pair_members r may limit in
       let issued : IsIssued m pair_members (next_stamp r) op = record { stamp = stamp; valid = fits (next_stamp r) stamp limit } in
       let counts' : Counts (k + 1) (xs ++ replica (edited r op) ∷ ys) = λ e c i.
-            elim (Contains-cases (entry (next_stamp r) op) (operations all) e (in_family_edited m pair_members xs ys r family few op e c)) [
-              | inl q ↦ subst (λ (z : Entry Op). count z.stamp.clock i ≤ k + 1) q (next i)
-              | inr j ↦ (let h = counts e j i in omega (arith, h))
-            ] in
+      elim (Contains-cases (entry (next_stamp r) op) (operations all) e (in_family_edited m pair_members xs ys r family few op e c)) [
+        | inl q ↦ subst (λ (z : Entry Op). count z.stamp.clock i ≤ k + 1) q (next i)
+        | inr j ↦ (let h = counts e j i in omega (arith, h))
+      ] in
       put m (k + 1) lab file (replica (edited r op)) (xs ++ replica (edited r op) ∷ ys) (place.then' (replica (edited r op)))
       (among_place m (k + 1) lab file (replica r) (replica (edited r op)) place) old.honest
       (doc-edited r op ∙ doc_at m k lab old.honest file (replica r) at)
@@ -245,6 +244,19 @@ module _ {State Op : Type 0} (m : Meaning State Op) (made : Verb → ℕ → Op)
 
 -- whole runs
 
+pub lab_run-append : {State Op : Type 0} (m : Meaning State Op) (made : Verb → ℕ → Op) (lab : Lab Op) (first rest : List (List ℕ))
+    → (lab_run m made lab (first ++ rest)).lab ≡ (lab_run m made (lab_run m made lab first).lab rest).lab
+lab_run-append m made lab [] rest = refl
+lab_run-append m made lab (line ∷ first) rest = lab_run-append m made (lab_step m made lab line).lab first rest
+
+pub text_run-append : {State Op : Type 0} (m : Meaning State Op) (made : Verb → ℕ → Op) (lab : Lab Op) (first rest : List (List ℕ))
+    → (lab_run m made lab (first ++ rest)).text ≡ (lab_run m made lab first).text ++ (lab_run m made (lab_run m made lab first).lab rest).text
+text_run-append m made lab [] rest = refl
+text_run-append m made lab (line ∷ first) rest =
+    let step = lab_step m made lab line in
+    ap (λ (t : List ℕ). step.text ++ t) (text_run-append m made step.lab first rest)
+    ∙ sym (append_assoc step.text (lab_run m made step.lab first).text (lab_run m made (lab_run m made step.lab first).lab rest).text)
+
 module _ {State Op : Type 0} (m : Meaning State Op) (made : Verb → ℕ → Op)
     (valid : (v : Verb) (x : ℕ) → x < 2 ^ 64 → (p : Stamp) → IsStampOf pair_members p → IsWithin p → m.valid p (made v x)) where
   pub run_goes : (lines : List (List ℕ)) (lab : Lab Op) (k : ℕ) → Keeps m k lab → AreFair m made lab lines → k + length lines ≤ max_seq
@@ -255,3 +267,41 @@ module _ {State Op : Type 0} (m : Meaning State Op) (made : Verb → ℕ → Op)
       let rest = run_goes lines (lab_step m made lab line).lab (k + 1) first fair.1 (omega arith) in
       let q : k + 1 + length lines ≡ k + length (line ∷ lines) = omega arith in
       subst (λ (j : ℕ). Keeps m j (lab_run m made lab (line ∷ lines)).lab) q rest
+
+-- the same for the words of clauses
+
+module _ {State Op : Type 0} (m : Meaning State Op) (made : Verb → ℕ → Op) (valid : MakesValid m made) (lines : List (List ℕ)) where
+  pub run_keeps : (lab : Lab Op) (k : ℕ) → IsHonestLab m lab → CountAtMost k lab → AreFair m made lab lines → k + length lines ≤ max_seq
+      → Keeps m (k + length lines) (lab_run m made lab lines).lab
+  run_keeps lab k honest counts fair room =
+      let start : Keeps m k lab = record {
+        honest = honest;
+        counts = λ e c. All-contains (λ (e : Entry Op). (i : ℕ) → count e.stamp.clock i ≤ k) (operations (things lab)) e counts c;
+      } in
+      run_goes m made (λ v x h p stamp limit. valid.each v x p h stamp limit) lines lab k start fair room
+
+  pub run_counts : (lab : Lab Op) (k : ℕ) → Keeps m k lab → CountAtMost k lab
+  run_counts lab k keeps = all_from_contains (λ (e : Entry Op). (i : ℕ) → count e.stamp.clock i ≤ k) (operations (things lab)) keeps.counts
+
+  empty_honest : IsHonestLab m []
+  empty_honest = record {
+    names = none_distinct;
+    document = All-nil (λ (t : Thing Op). doc_of t ≡ pair_text);
+    family = family_empty m pair_members;
+  }
+
+  pub run_from_empty : AreFair m made [] lines → length lines ≤ max_seq → Keeps m (0 + length lines) (lab_run m made [] lines).lab
+  run_from_empty fair room = run_keeps [] 0 empty_honest (All-nil (λ (e : Entry Op). (i : ℕ) → count e.stamp.clock i ≤ 0)) fair (omega arith)
+
+module _ {State Op : Type 0} (m : Meaning State Op) (lab : Lab Op) (honest : IsHonestLab m lab) where
+  pub replica_there : (name : List ℕ) (r : Replica Op) → thing_at lab name ≡ Some (replica r) → Contains (things lab) (replica r)
+  replica_there name r h = found_in m 0 lab name (replica r) h
+
+  pub batch_there : (name : List ℕ) (b : Batch Op) → thing_at lab name ≡ Some (batch b) → Contains (things lab) (batch b)
+  batch_there name b h = found_in m 0 lab name (batch b) h
+
+  pub closed_at : (name : List ℕ) (r : Replica Op) → thing_at lab name ≡ Some (replica r) → IsClosed r.delivered
+  closed_at name r h = (sound_at m pair_members (things lab) honest.family r (replica_there name r h)).closed
+
+  pub meets_at : (name other : List ℕ) (r : Replica Op) (b : Batch Op) → thing_at lab name ≡ Some (replica r) → thing_at lab other ≡ Some (batch b) → MayMerge r b
+  meets_at name other r b h k = may_merge m pair_members (things lab) honest.family r b (replica_there name r h) (batch_there other b k)
