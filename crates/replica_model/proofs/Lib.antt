@@ -1,3 +1,4 @@
+pub mod Counted
 pub mod Edits
 pub mod Families
 pub mod Meetings
@@ -6,4 +7,5 @@ pub mod Names
 pub mod Pools
 pub mod Ready
 pub mod Things
+pub mod Told
 pub mod Versions

@@ -1,9 +1,10 @@
 //! What merges leave, and what keeps a family honest. Each law is the contract of a function that does nothing.
-ghost use Rattle.std.specs.Prelude.{◌≡◌, ◌≢◌, ℕ, ◌<◌, ◌≤◌, List, [], ◌∷◌, ◌++◌, ◌↔◌, Option};
+ghost use Rattle.std.specs.Prelude.{◌≡◌, ◌≢◌, ℕ, ◌<◌, ◌≤◌, List, [], ◌∷◌, ◌++◌, ◌↔◌, ◌==◌, Option, count_by};
 ghost use Rattle.std.specs.List.{All, Contains};
+ghost use Rattle.vector_clock.specs.Clock.{IsAtMost, count};
 ghost use Rattle.crdt_laws.specs.declared.small.Entry.{Entry};
 ghost use Rattle.crdt_laws.specs.Sets.{IsClosed, IsHonest};
-ghost use Rattle.replica_model.specs.Replica.{Replica, Batch, edited, exported, merged, new_replica, next_stamp};
+ghost use Rattle.replica_model.specs.Replica.{Replica, Batch, edited, exported, merged, new_replica, next_stamp, version};
 ghost use Rattle.replica_model.specs.Family.{Thing, replica, batch, replicas, IsHonestFamily, MayMerge};
 
 use crdt_laws::Tower;
@@ -55,4 +56,15 @@ pub fn family_sends<T: Tower>(tower: &T)
     ensures exported_over { (n : ℕ) (xs ys : List (Thing T.Op)) (r : Replica T.Op) (b : Batch T.Op) (to : Option ℕ) → IsHonestFamily (T.meaning tower.now) n (xs ++ batch b ∷ ys)
         → Contains (xs ++ batch b ∷ ys) (replica r) → IsHonestFamily (T.meaning tower.now) n (xs ++ batch (exported r to) ∷ ys) }
     ensures lost { (n : ℕ) (xs ys : List (Thing T.Op)) (b : Batch T.Op) → IsHonestFamily (T.meaning tower.now) n (xs ++ batch b ∷ ys) → IsHonestFamily (T.meaning tower.now) n (xs ++ ys) }
+{}
+
+/// In an honest family the version of a replica counts its operations of each member, and tells which it has: one
+/// replica has all that another has exactly where its version is at least the other's. Equal sets are equal lists.
+pub fn family_versions<T: Tower>(tower: &T)
+    ensures counts { (n : ℕ) (ts : List (Thing T.Op)) (r : Replica T.Op) → IsHonestFamily (T.meaning tower.now) n ts → Contains ts (replica r)
+        → (m : ℕ) → count (version n r.delivered) m ≡ count_by (λ e. e.stamp.member == m) r.delivered }
+    ensures tells { (n : ℕ) (ts : List (Thing T.Op)) (r s : Replica T.Op) → IsHonestFamily (T.meaning tower.now) n ts → Contains ts (replica r) → Contains ts (replica s)
+        → IsAtMost (version n r.delivered) (version n s.delivered) ↔ ((e : Entry T.Op) → Contains r.delivered e → Contains s.delivered e) }
+    ensures alike { (n : ℕ) (ts : List (Thing T.Op)) (r s : Replica T.Op) → IsHonestFamily (T.meaning tower.now) n ts → Contains ts (replica r) → Contains ts (replica s)
+        → ((e : Entry T.Op) → Contains r.delivered e ↔ Contains s.delivered e) → r.delivered ≡ s.delivered }
 {}
