@@ -1,10 +1,10 @@
 -- What a line does to named replicas and batches, and what it prints.
-use Rattle.std.specs.Prelude.{◌≡◌, ℕ, ◌-◌, ◌^◌, ◌<◌, ◌≤◌, List, [], ◌∷◌, ◌++◌, Bool, true, false, ◌||◌, IsFalse, Option, None, Some, Result, Ok, Err, codes, length, map, if◌then◌else◌}
+use Rattle.std.specs.Prelude.{ℕ, ◌-◌, List, [], ◌∷◌, ◌++◌, Bool, true, false, ◌||◌, Option, None, Some, Result, Ok, Err, codes, length, if◌then◌else◌}
 use Rattle.std.specs.Str.{bytes_eq}
 use Rattle.std.specs.Map.{lookup}
 use Rattle.crdt_laws.specs.Tower.{Meaning}
 use Rattle.crdt_laws.specs.Present.{document}
-use Rattle.replica_model.specs.Replica.{Replica, Batch, edited, exported, merged, new_replica}
+use Rattle.replica_model.specs.Replica.{edited, exported, merged, new_replica}
 use Rattle.replica_model.specs.Family.{Thing, replica, batch}
 use Rattle.lab_model.specs.declared.command.Command.{Command}
 use Rattle.lab_model.specs.declared.command.Command.TheVariants.{New, Edit, Show, Export, Merge, Play}

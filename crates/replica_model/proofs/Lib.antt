@@ -1,0 +1,11 @@
+pub mod Counted
+pub mod Edits
+pub mod Families
+pub mod Meetings
+pub mod Merged
+pub mod Names
+pub mod Pools
+pub mod Ready
+pub mod Things
+pub mod Told
+pub mod Versions

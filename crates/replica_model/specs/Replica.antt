@@ -1,5 +1,5 @@
 -- The replica of a document: two sets of operations, and what each member is known to have.
-use Rattle.std.specs.Prelude.{ℕ, ◌+◌, List, [], ◌∷◌, ◌++◌, Bool, not, nat_le, Option, None, Some, filter, fold, length, replicate, slice_index_or, slice_set, if◌then◌else◌}
+use Rattle.std.specs.Prelude.{ℕ, ◌+◌, List, [], ◌∷◌, not, nat_le, Option, None, Some, filter, fold, length, replicate, slice_index_or, slice_set, if◌then◌else◌}
 use Rattle.vector_clock.specs.declared.clock.Clock.{Clock}
 use Rattle.vector_clock.specs.declared.stamp.Stamp.{Stamp}
 use Rattle.vector_clock.specs.Clock.{count, covers, join, meet, with_entry, zero_clock}
