@@ -7,7 +7,7 @@ use Rattle.std.proofs.lemmas.Nat.{mul-mod_first}
 use Rattle.serde_json.specs.Data.{number}
 use Rattle.serde_json.specs.Find.{of_integer}
 use Rattle.vector_clock.specs.declared.stamp.Stamp.{Stamp}
-use Rattle.crdt_laws.specs.Tower.{Meaning, IsLawful, IsIssued, IsWithin, MaySwap}
+use Rattle.crdt_laws.specs.Tower.{Meaning, IsLawful, IsWithin}
 use Rattle.lab_model.specs.declared.command.Verb.{Verb}
 use Rattle.lab_model.specs.declared.command.Verb.TheVariants as verb
 use Rattle.replica_cmd.specs.declared.number.NumberOp.{NumberOp}

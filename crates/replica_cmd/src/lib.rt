@@ -1,4 +1,6 @@
 //! The commands of the program: lines of a script over named replicas and batches.
 #![tactic(auto)]
 
+mod lines;
 mod number;
+mod parse;
