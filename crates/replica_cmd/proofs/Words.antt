@@ -1,6 +1,6 @@
 -- What the readers of scripts and words rest on.
-use Rattle.std.proofs.Common.{◌≡◌, ℕ, zero, suc, ◌+◌, ◌-◌, ◌*◌, ◌<◌, ◌≤◌, true, List, [], ◌∷◌, None, take, drop, get_or, length, ◌⊎◌, sym, ◌∙◌, ap, refl, arith}
-use Rattle.std.specs.Char.{is_ascii_alphanumeric, is_ascii_digit}
+use Rattle.std.proofs.Common.{◌≡◌, ℕ, ◌+◌, ◌-◌, ◌*◌, ◌<◌, ◌≤◌, true, List, [], ◌∷◌, None, take, drop, get_or, length, ◌⊎◌, sym, ◌∙◌, ap, refl, arith}
+use Rattle.std.specs.Char.{is_ascii_alphanumeric}
 use Rattle.std.specs.List.{fold, list_all}
 use Rattle.std.specs.Str.{IsAscii, IsUtf8}
 use Rattle.std.proofs.lemmas.Bool.{and_parts, false≢true}
@@ -26,11 +26,6 @@ value_front ds i =
     let f = λ (n b : ℕ). 10 * n + (b - 48) in
     let parts : fold f 0 ds ≡ fold f (value_of (take i ds)) (drop i ds) = ap (fold f 0) (sym (take-append-drop i ds)) ∙ fold-append f 0 (take i ds) (drop i ds) in
     omega (arith, parts, value_grows (value_of (take i ds)) (drop i ds))
-
-pub digit_at : (ds : List ℕ) (i : ℕ) → list_all is_ascii_digit ds ≡ true → i < length ds → (48 ≤ get_or ds i 0) × (get_or ds i 0 ≤ 57)
-digit_at [] i h k = absurd (omega arith)
-digit_at (d ∷ ds) zero h k = let first : is_ascii_digit d ≡ true = (and_parts _ _ h).0 in grind (arith, nat_tests)
-digit_at (d ∷ ds) (suc i) h k = digit_at ds i (and_parts _ _ h).1 (omega arith)
 
 -- ---- names of files
 
