@@ -34,3 +34,6 @@ fn is_run(line: &[u8]) -> bool
 {
     !matches!(line, [] | [b'#', ..])
 }
+
+#[cfg(test)]
+mod tests;

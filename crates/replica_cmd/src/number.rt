@@ -104,3 +104,6 @@ impl Tower for Number {
 
     ghost lawful = { λ _. number_lawful };
 }
+
+#[cfg(test)]
+mod tests;
