@@ -14,7 +14,9 @@ use Rattle.std.proofs.lemmas.List.Splits.{length-slice_split}
 use Rattle.lab_model.specs.declared.command.Command.{Command}
 use Rattle.lab_model.specs.declared.command.Command.TheVariants.{New, Edit, Show, Export, Merge}
 use Rattle.lab_model.specs.declared.command.Verb.{Verb}
+use Rattle.lab_model.specs.declared.command.Verb.TheVariants.{Add, Mul}
 use Rattle.lab_model.specs.Line.{command_of, command_of_words, edit_of, is_file_name, is_number, is_run, lines_of, member_of, negative, new_of, number_below, residue_of, value_of, verb_of}
+use Rattle.replica_cmd.specs.Number.{IsWordOp, number_op}
 
 -- ---- scripts
 
@@ -116,3 +118,8 @@ amount_below line file verb amount e = subst IsBounded e (command_bounded line)
 
 pub member_below : (line file : List ℕ) (member : ℕ) → command_of line ≡ Some (New file member) → member < 2
 member_below line file member e = subst IsBounded e (command_bounded line)
+
+-- the operation of an amount below 2^64
+pub word_op : (verb : Verb) (amount : ℕ) → amount < 2 ^ 64 → IsWordOp (number_op verb amount)
+word_op Add amount h = h
+word_op Mul amount h = h
