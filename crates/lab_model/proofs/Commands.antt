@@ -1,11 +1,12 @@
 -- The numbers in the command that a line is.
-use Rattle.std.proofs.Common.{ℕ, zero, suc, ◌+◌, ◌^◌, ◌<◌, ◌≤◌, Bool, List, [], ◌∷◌, Option, None, Some, cond, arith}
+use Rattle.std.proofs.Common.{ℕ, zero, suc, ◌+◌, ◌-◌, ◌^◌, ◌<◌, ◌≤◌, Bool, List, [], ◌∷◌, Option, None, Some, cond, arith}
 use Rattle.std.specs.Prelude.{◌&&◌, ◌==◌, codes, option_and_then, nat_lt}
 use Rattle.std.specs.List.{slice_split}
 use Rattle.std.specs.Str.{bytes_eq}
 use Rattle.std.proofs.lemmas.Bool.{and_parts, cond_both, ltb-true}
+use Rattle.std.proofs.lemmas.Bool.Decides.{nat_tests}
 use Rattle.lab_model.specs.declared.command.Command.{Command}
-use Rattle.lab_model.specs.declared.command.Command.TheVariants.{New, Edit, Show, Export, Merge}
+use Rattle.lab_model.specs.declared.command.Command.TheVariants.{New, Edit, Show, Export, Merge, Play}
 use Rattle.lab_model.specs.declared.command.Verb.{Verb}
 use Rattle.lab_model.specs.Line.{command_of, command_of_words, edit_of, is_file_name, is_number, member_of, negative, new_of, number_below, residue_of, value_of, verb_of}
 
@@ -25,8 +26,7 @@ below_more low high None h k = tt
 below_more low high (Some n) h k = omega arith
 
 negative_below : (n : ℕ) → IsBelow (2 ^ 64) (negative n)
-negative_below zero = tt
-negative_below (suc n) = omega arith
+negative_below n = cond_both (n == 0) None (Some (2 ^ 64 - n)) (IsBelow (2 ^ 64)) (λ _. tt) (λ h. grind (arith, nat_tests))
 
 then_negative : (n : Option ℕ) → IsBelow (2 ^ 64) (option_and_then negative n)
 then_negative None = tt
@@ -39,6 +39,13 @@ residue_below (b ∷ digits) =
     cond_both (b == 45) (option_and_then negative (number_below (2 ^ 63 + 1) digits)) (number_below (2 ^ 63) (b ∷ digits)) (IsBelow (2 ^ 64))
     (λ _. then_negative (number_below (2 ^ 63 + 1) digits))
     (λ _. below_more (2 ^ 63) (2 ^ 64) (number_below (2 ^ 63) (b ∷ digits)) (omega arith) (number_below_is (2 ^ 63) (b ∷ digits)))
+
+-- each member is one of the two
+member_below : (word : List ℕ) → IsBelow 2 (member_of word)
+member_below word =
+    let one = cond (bytes_eq word (codes "1")) (Some 1) None in
+    cond_both (bytes_eq word (codes "0")) (Some 0) one (IsBelow 2) (λ _. omega arith)
+    (λ _. cond_both (bytes_eq word (codes "1")) (Some 1) None (IsBelow 2) (λ _. omega arith) (λ _. tt))
 
 -- a command that a line can be
 abbrev pub IsReadable : Option Command → Type 0
@@ -60,7 +67,7 @@ either b x h = cond_both b x None IsReadable (λ _. h) (λ _. tt)
 
 words_readable : (words : List (List ℕ)) → IsReadable (command_of_words words)
 words_readable [] = tt
-words_readable (a ∷ []) = tt
+words_readable (verb ∷ []) = either (bytes_eq verb (codes "play")) (Some Play) tt
 words_readable (verb ∷ file ∷ []) = either (bytes_eq verb (codes "show") && is_file_name file) (Some (Show file)) tt
 words_readable (verb ∷ file ∷ batch ∷ []) =
     let merge = cond (bytes_eq verb (codes "merge")) (Some (Merge file batch)) None in
@@ -68,7 +75,7 @@ words_readable (verb ∷ file ∷ batch ∷ []) =
     (cond_both (bytes_eq verb (codes "export")) (Some (Export file batch)) merge IsReadable (λ _. tt)
     (λ _. either (bytes_eq verb (codes "merge")) (Some (Merge file batch)) tt))
 words_readable (verb ∷ file ∷ member ∷ schema ∷ []) =
-    either (bytes_eq verb (codes "new") && (is_file_name file && bytes_eq schema (codes "@pair"))) (new_of file (member_of member)) (new_readable file (member_of member) (number_below_is 2 member))
+    either (bytes_eq verb (codes "new") && (is_file_name file && bytes_eq schema (codes "@pair"))) (new_of file (member_of member)) (new_readable file (member_of member) (member_below member))
 words_readable (verb ∷ file ∷ field ∷ action ∷ number ∷ []) =
     either (bytes_eq verb (codes "edit") && (is_file_name file && bytes_eq field (codes "n"))) (edit_of file (verb_of action) (residue_of number))
     (edit_readable file (verb_of action) (residue_of number) (residue_below number))

@@ -1,5 +1,6 @@
 -- How a script is cut into lines, and which command a line is.
-use Rattle.std.specs.Prelude.{ℕ, ◌+◌, ◌-◌, ◌*◌, ◌^◌, List, [], ◌∷◌, Bool, false, not, ◌&&◌, ◌||◌, ◌==◌, nat_le, nat_lt, zero, suc, Option, None, Some, codes, filter, fold, length, map, option_and_then, if◌then◌else◌}
+use Rattle.std.specs.Prelude.{ℕ, ◌+◌, ◌-◌, ◌*◌, ◌^◌, List, [], ◌∷◌, Bool, false, not, ◌&&◌, ◌||◌, ◌==◌, nat_le, nat_lt, Option, None, Some, codes, filter, fold, length, map, option_and_then, if◌then◌else◌}
+use Rattle.std.specs.Char.{is_ascii_alphanumeric, is_ascii_digit}
 use Rattle.std.specs.List.{list_all, slice_split}
 use Rattle.std.specs.Str.{bytes_eq}
 use Rattle.std.specs.Str.Lines.{strip_carriage_return}
@@ -21,28 +22,18 @@ lines_of script = filter is_run (map strip_carriage_return (slice_split (λ b. b
 
 -- ---- words
 
-abbrev pub is_within : ℕ → ℕ → ℕ → Bool
-is_within low high b = nat_le low b && nat_le b high
-
-abbrev pub is_digit : ℕ → Bool
-is_digit b = is_within 48 57 b
-
-abbrev pub is_letter : ℕ → Bool
-is_letter b = is_within 65 90 b || is_within 97 122 b
-
 -- a letter, a digit, a dot, a low line or a dash
 abbrev pub is_name_byte : ℕ → Bool
-is_name_byte b = is_letter b || (is_digit b || ((b == 46) || ((b == 95) || (b == 45))))
+is_name_byte b = is_ascii_alphanumeric b || ((b == 46) || ((b == 95) || (b == 45)))
 
 abbrev pub is_file_name : List ℕ → Bool
 is_file_name [] = false
-is_file_name (b ∷ bs) = (is_letter b || is_digit b) && (list_all is_name_byte bs && nat_le (length bs) 63)
+is_file_name (b ∷ bs) = is_ascii_alphanumeric b && (nat_le (length bs) 63 && list_all is_name_byte bs)
 
--- decimal digits without a leading zero, but for the number 0
+-- decimal digits, of which the first is 0 only where it is the one digit
 abbrev pub is_number : List ℕ → Bool
 is_number [] = false
-is_number (b ∷ []) = is_digit b
-is_number (b ∷ c ∷ bs) = not (b == 48) && list_all is_digit (b ∷ c ∷ bs)
+is_number (b ∷ bs) = if b == 48 then length bs == 0 else list_all is_ascii_digit (b ∷ bs)
 
 abbrev pub value_of : List ℕ → ℕ
 value_of digits = fold (λ n b. 10 * n + (b - 48)) 0 digits
@@ -53,8 +44,7 @@ number_below limit digits = if is_number digits && nat_lt (value_of digits) limi
 
 -- the residue modulo 2^64 of a number that is taken away
 abbrev pub negative : ℕ → Option ℕ
-negative zero = None
-negative (suc n) = Some (2 ^ 64 - suc n)
+negative n = if n == 0 then None else Some (2 ^ 64 - n)
 
 -- The residue that a signed number stands for: digits up to 2^63 - 1, or a minus and digits from 1 to 2^63.
 abbrev pub residue_of : List ℕ → Option ℕ
@@ -65,7 +55,7 @@ residue_of (b ∷ digits) =
 -- ---- commands
 
 abbrev pub member_of : List ℕ → Option ℕ
-member_of word = number_below 2 word
+member_of word = if bytes_eq word (codes "0") then Some 0 else if bytes_eq word (codes "1") then Some 1 else None
 
 abbrev pub verb_of : List ℕ → Option Verb
 verb_of word = if bytes_eq word (codes "add") then Some Add else if bytes_eq word (codes "mul") then Some Mul else None

@@ -1,5 +1,5 @@
 ghost use Rattle.std.specs.Prelude.{◌≡◌};
-ghost use Rattle.replica_cmd.specs.Number.{number_op};
+ghost use Rattle.replica_cmd.specs.Number.{IsWordOp, number_op};
 
 use crdt_laws::{NoMemory, Tower, is_within};
 use lab_model::Verb;
@@ -16,7 +16,8 @@ pub(crate) enum NumberOp {
 
 /// The operation of a verb with its amount, a residue modulo 2^64.
 pub(crate) fn op_of(verb: Verb, amount: u64) -> NumberOp
-    ensures { result ≡ number_op verb amount }
+    ensures op { result ≡ number_op verb amount }
+    ensures word { IsWordOp result }
 {
     match verb {
         Verb::Add => NumberOp::Add(amount),
@@ -30,7 +31,8 @@ pub(crate) fn op_of(verb: Verb, amount: u64) -> NumberOp
 pub(crate) struct Number;
 
 impl Tower for Number {
-    ghost use Rattle.replica_cmd.specs.Number.{number_meaning, number_lawful};
+    ghost use Rattle.replica_cmd.specs.Number.{number_meaning};
+    ghost use Rattle.replica_cmd.specs.NumberLaws.{number_lawful};
 
     type State = u64;
 
@@ -104,3 +106,6 @@ impl Tower for Number {
 
     ghost lawful = { λ _. number_lawful };
 }
+
+#[cfg(test)]
+mod tests;
