@@ -45,7 +45,7 @@ unfolding exported
 doc-exported r to = refl
 
 -- the operations of a version and one more
-next_below : {Op : Type 0} (r : Replica Op) (k : ℕ) → r.me < 16 → ((e : Entry Op) → Contains r.delivered e → (i : ℕ) → count e.stamp.clock i ≤ k)
+pub next_below : {Op : Type 0} (r : Replica Op) (k : ℕ) → r.me < 16 → ((e : Entry Op) → Contains r.delivered e → (i : ℕ) → count e.stamp.clock i ≤ k)
     → (i : ℕ) → count (next_stamp r).clock i ≤ k + 1
 next_below r k within h i =
     let v = version (members r) r.delivered in
@@ -329,3 +329,17 @@ pub refused_stays : {State Op : Type 0} (m : Meaning State Op) (made : Verb → 
     → (lab_step m made lab line).refused ≡ true → (lab_step m made lab line).lab ≡ lab
 unfolding lab_step
 refused_stays m made lab line h = refused_result m made lab (act_on m made lab (command_of line)) h
+
+-- the next stamp of a replica of a lab is one of the document, within the limit
+pub next_stamp_at : {State Op : Type 0} (m : Meaning State Op) (k : ℕ) (lab : Lab Op) → Keeps m k lab → k + 1 ≤ max_seq
+    → (name : List ℕ) (r : Replica Op) → thing_at lab name ≡ Some (replica r) → IsStampOf pair_members (next_stamp r) × IsWithin (next_stamp r)
+next_stamp_at m k lab keeps room name r h =
+    let ts = things lab in
+    let family = keeps.honest.family in
+    let here = replica_there m lab keeps.honest name r h in
+    let few : pair_members ≤ 16 = omega arith in
+    let may = may_edit m pair_members ts family few r here in
+    let within : r.me < 16 = (let l = may.sound.member in omega arith) in
+    let next = next_below r k within (λ e c. keeps.counts e (replica_inside m pair_members ts family r here e (Contains-append_left r.delivered r.waiting e c))) in
+    let limit : IsWithin (next_stamp r) = record { each = λ i. let b = next i in omega (arith, room) } in
+    (next_stamp_is (operations ts) pair_members r may limit, limit)
