@@ -1,13 +1,14 @@
 -- Fair lines keep a lab honest.
-use Rattle.std.proofs.Common.{◌≡◌, ℕ, ◌+◌, ◌^◌, ◌<◌, ◌≤◌, List, [], ◌∷◌, ◌++◌, Option, None, Some, Result, Ok, append_assoc, refl, ap, sym, ◌∙◌, subst, arith, Contains, length, inl, inr, ◌⊎◌, ◌≢◌}
+use Rattle.std.proofs.Common.{◌≡◌, true, ℕ, ◌+◌, ◌^◌, ◌<◌, ◌≤◌, List, [], ◌∷◌, ◌++◌, Option, None, Some, Result, Ok, Err, append_assoc, refl, ap, sym, ◌∙◌, subst, arith, Contains, length, inl, inr, ◌⊎◌, ◌↔◌, ◌≢◌}
 use Rattle.std.specs.List.{All}
-use Rattle.std.proofs.lemmas.Bool.{cases_eq}
+use Rattle.std.proofs.lemmas.Bool.{cases_eq, false≢true}
 use Rattle.std.proofs.lemmas.List.{append-nil}
 use Rattle.std.proofs.lemmas.List.Elements.{All-contains, All-nil, Contains-append_left}
 use Rattle.vector_clock.specs.declared.stamp.Stamp.{Stamp}
 use Rattle.vector_clock.specs.Clock.{count}
 use Rattle.crdt_laws.specs.declared.small.Entry.{Entry}
 use Rattle.crdt_laws.specs.Entry.{entry}
+use Rattle.crdt_laws.specs.Present.{document}
 use Rattle.crdt_laws.specs.Sets.{IsClosed}
 use Rattle.crdt_laws.specs.Tower.{IsIssued, IsStampOf, IsWithin, Meaning, max_seq}
 use Rattle.crdt_laws.proofs.Members.{Contains-cases}
@@ -18,13 +19,15 @@ use Rattle.replica_model.proofs.Families.{doc-new_replica, family_empty, family_
 use Rattle.replica_model.proofs.Merged.{doc-merged}
 use Rattle.replica_model.proofs.Names.{all_from_contains}
 use Rattle.replica_model.proofs.Things.{in_split, split_has, split_it}
+use Rattle.replica_model.proofs.Told.{delivered_alike}
 use Rattle.replica_model.proofs.Versions.{count-with_other, count-with_own, length-version, version_below}
 use Rattle.lab_model.specs.declared.command.Command.{Command}
 use Rattle.lab_model.specs.declared.command.Command.TheVariants.{New, Edit, Show, Export, Merge, Play}
 use Rattle.lab_model.specs.declared.command.Verb.{Verb}
 use Rattle.lab_model.specs.declared.refusal.Refusal.{Refusal}
 use Rattle.lab_model.specs.Honest.{AreFair, CountAtMost, MakesValid, IsFairCommand, IsHonestLab, doc_of, things}
-use Rattle.lab_model.specs.Lab.{Effect, Lab, act_on, edit_under, export_under, lab_run, lab_step, merge_under, new_under, outcome_of, pair_members, pair_text, show_under, thing_at, with_thing}
+use Rattle.lab_model.specs.Lab.{Effect, Lab, act, act_on, edit_under, effect, export_under, lab_run, lab_step, merge_under, new_under, outcome_of, pair_members, pair_text, show_under, thing_at, with_thing}
+use Rattle.lab_model.specs.Text.{document_text}
 use Rattle.lab_model.specs.Line.{command_of}
 use Rattle.lab_model.proofs.Commands.{IsReadable, command_readable}
 use Rattle.lab_model.proofs.Places.{Stands, distinct_with, none_distinct, stands, stands_last}
@@ -42,7 +45,7 @@ unfolding exported
 doc-exported r to = refl
 
 -- the operations of a version and one more
-next_below : {Op : Type 0} (r : Replica Op) (k : ℕ) → r.me < 16 → ((e : Entry Op) → Contains r.delivered e → (i : ℕ) → count e.stamp.clock i ≤ k)
+pub next_below : {Op : Type 0} (r : Replica Op) (k : ℕ) → r.me < 16 → ((e : Entry Op) → Contains r.delivered e → (i : ℕ) → count e.stamp.clock i ≤ k)
     → (i : ℕ) → count (next_stamp r).clock i ≤ k + 1
 next_below r k within h i =
     let v = version (members r) r.delivered in
@@ -306,3 +309,38 @@ module _ {State Op : Type 0} (m : Meaning State Op) (lab : Lab Op) (honest : IsH
 
   pub meets_at : (name other : List ℕ) (r : Replica Op) (b : Batch Op) → thing_at lab name ≡ Some (replica r) → thing_at lab other ≡ Some (batch b) → MayMerge r b
   meets_at name other r b h k = may_merge m pair_members (things lab) honest.family r b (replica_there name r h) (batch_there other b k)
+
+  -- the same operations print the same text
+  pub shown_alike : (made : Verb → ℕ → Op) (name other : List ℕ) (r s : Replica Op) → thing_at lab name ≡ Some (replica r) → thing_at lab other ≡ Some (replica s)
+      → ((e : Entry Op) → Contains r.delivered e ↔ Contains s.delivered e) → act m made lab (Show name) ≡ act m made lab (Show other)
+  shown_alike made name other r s h k same =
+      let q = delivered_alike m pair_members (things lab) honest.family r s (replica_there name r h) (replica_there other s k) same in
+      ap (show_under m made lab name) h
+      ∙ ap (λ (l : List (Entry Op)). Ok (effect lab (document_text (m.show (document m l))))) q
+      ∙ sym (ap (show_under m made lab other) k)
+
+-- a refusal changes nothing
+
+refused_result : {State Op : Type 0} (m : Meaning State Op) (made : Verb → ℕ → Op) (lab : Lab Op) (r : Result (Effect Op) Refusal)
+    → (outcome_of m made lab r).refused ≡ true → (outcome_of m made lab r).lab ≡ lab
+refused_result m made lab (Ok e) h = absurd (false≢true h)
+refused_result m made lab (Err cause) h = refl
+
+pub refused_stays : {State Op : Type 0} (m : Meaning State Op) (made : Verb → ℕ → Op) (lab : Lab Op) (line : List ℕ)
+    → (lab_step m made lab line).refused ≡ true → (lab_step m made lab line).lab ≡ lab
+unfolding lab_step
+refused_stays m made lab line h = refused_result m made lab (act_on m made lab (command_of line)) h
+
+-- the next stamp of a replica of a lab is one of the document, within the limit
+pub next_stamp_at : {State Op : Type 0} (m : Meaning State Op) (k : ℕ) (lab : Lab Op) → Keeps m k lab → k + 1 ≤ max_seq
+    → (name : List ℕ) (r : Replica Op) → thing_at lab name ≡ Some (replica r) → IsStampOf pair_members (next_stamp r) × IsWithin (next_stamp r)
+next_stamp_at m k lab keeps room name r h =
+    let ts = things lab in
+    let family = keeps.honest.family in
+    let here = replica_there m lab keeps.honest name r h in
+    let few : pair_members ≤ 16 = omega arith in
+    let may = may_edit m pair_members ts family few r here in
+    let within : r.me < 16 = (let l = may.sound.member in omega arith) in
+    let next = next_below r k within (λ e c. keeps.counts e (replica_inside m pair_members ts family r here e (Contains-append_left r.delivered r.waiting e c))) in
+    let limit : IsWithin (next_stamp r) = record { each = λ i. let b = next i in omega (arith, room) } in
+    (next_stamp_is (operations ts) pair_members r may limit, limit)

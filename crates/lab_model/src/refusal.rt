@@ -26,3 +26,20 @@ impl fmt::Display for Refusal {
         }
     }
 }
+
+#[cfg(test)]
+mod tests {
+    use super::*;
+    use std::alloc::AllocError;
+
+    #[test]
+    fn names_what_is_missing(rt: HostRuntime) -> Result<(), AllocError> {
+        let name = FileName::of(rt.alloc(), "ana.save")?;
+        let again = FileName::of(rt.alloc(), "ana.save")?;
+        assert!(rt; name.is(&again));
+        let refusal = Refusal::Missing(name);
+        let text = format!(in rt.alloc(); "{refusal}")?;
+        assert_eq!(rt; text.as_str(), "missing ana.save");
+        Ok(())
+    }
+}

@@ -1,10 +1,9 @@
 -- The version of a closed set counts the operations of each member.
-use Rattle.std.proofs.Common.{◌≡◌, ℕ, zero, suc, ◌+◌, ◌<◌, ◌≤◌, Bool, true, false, List, [], ◌∷◌, eqb, map, refl, ap, ap₂, sym, ◌∙◌, subst, arith, Contains, length, inl, inr, ◌⊎◌}
+use Rattle.std.proofs.Common.{◌≡◌, ℕ, zero, suc, ◌+◌, ◌<◌, ◌≤◌, Bool, false, List, [], ◌∷◌, eqb, map, ap, ap₂, sym, ◌∙◌, subst, arith, Contains, inl, inr}
 use Rattle.std.specs.Prelude.{nat_eq, filter, count_by}
-use Rattle.std.specs.Bool.{Decides}
 use Rattle.std.specs.List.{IsDistinct, range_with_len}
 use Rattle.std.specs.Set.{is_member}
-use Rattle.std.proofs.lemmas.Bool.{both_ways, cases_eq, eqb-true, eq-eqb, false_from_ne_true, le-leb, ne_eqb}
+use Rattle.std.proofs.lemmas.Bool.{both_ways, cases_eq, eqb-true, eq-eqb, le-leb, ne_eqb}
 use Rattle.std.proofs.lemmas.Bool.Decides.{Decides-eqb, Decides-like, same_from_decides}
 use Rattle.std.proofs.lemmas.Cmp.{nat_eq_equiv}
 use Rattle.std.proofs.lemmas.List.FromFn.{length-range_with_len}
@@ -12,9 +11,8 @@ use Rattle.std.proofs.lemmas.List.Sums.{length-filter}
 use Rattle.std.proofs.lemmas.Map.Keys.{IsDistinct-cons}
 use Rattle.std.proofs.lemmas.Map.Made.{is_member-Decides, length-from_same_keys}
 use Rattle.std.proofs.Math.ListN.{length-map}
-use Rattle.vector_clock.specs.declared.clock.Clock.{Clock}
 use Rattle.vector_clock.specs.declared.clock.Id.{Id}
-use Rattle.vector_clock.specs.Clock.{count, covers}
+use Rattle.vector_clock.specs.Clock.{count}
 use Rattle.vector_clock.specs.Stamp.{id_of, same_id}
 use Rattle.crdt_laws.specs.declared.small.Entry.{Entry}
 use Rattle.crdt_laws.specs.Sets.{AreApart, IsClosed}
@@ -71,12 +69,12 @@ distinct_seqs m [] apart h = none_distinct
 distinct_seqs {Op} m (a ∷ ys) apart h =
     IsDistinct-cons nat_eq (seq_of a) (map seq_of ys)
     (each_from (λ (y : ℕ). nat_eq (seq_of a) y ≡ false) (map seq_of ys) (λ y c.
-        let f = in_map seq_of ys y c in
-        let e = f.0 in
-        ne_eqb (seq_of a) y (λ q.
-            let member : a.stamp.member ≡ e.stamp.member = h a (Contains-front a ys) ∙ sym (h e (Contains-more a ys e f.1)) in
-            let ids : id_of a.stamp ≡ id_of e.stamp = ap₂ (λ (j k : ℕ). record { member = j; seq = k }) member (q ∙ sym f.2) in
-            both_ways (same_id a.stamp e.stamp) (at_member (λ (z : Entry Op). same_id a.stamp z.stamp ≡ false) ys e apart.0 f.1) (same_id_from_ids a.stamp e.stamp ids))))
+    let f = in_map seq_of ys y c in
+    let e = f.0 in
+    ne_eqb (seq_of a) y (λ q.
+    let member : a.stamp.member ≡ e.stamp.member = h a (Contains-front a ys) ∙ sym (h e (Contains-more a ys e f.1)) in
+    let ids : id_of a.stamp ≡ id_of e.stamp = ap₂ (λ (j k : ℕ). record { member = j; seq = k }) member (q ∙ sym f.2) in
+    both_ways (same_id a.stamp e.stamp) (at_member (λ (z : Entry Op). same_id a.stamp z.stamp ≡ false) ys e apart.0 f.1) (same_id_from_ids a.stamp e.stamp ids))))
     (distinct_seqs m ys apart.1 (λ e c. h e (Contains-more a ys e c)))
 
 module _ {Op : Type 0} (n : ℕ) (xs : List (Entry Op)) (stamped : (e : Entry Op) → Contains xs e → IsStampOf n e.stamp) (closed : IsClosed xs) (apart : AreApart xs) (m : ℕ) where
@@ -114,9 +112,9 @@ module _ {Op : Type 0} (n : ℕ) (xs : List (Entry Op)) (stamped : (e : Entry Op
   version_counts =
       sym (length-range_with_len 1 total)
       ∙ length-from_same_keys nat_eq_equiv (range_with_len 1 total) (map seq_of own) (range_distinct 1 total)
-        (distinct_seqs m own (apart-filter of_member xs apart) own_member)
-        (λ q. same_from_decides (is_member nat_eq (range_with_len 1 total) q) (is_member nat_eq (map seq_of own) q)
-            (is_member-Decides Decides-eqb (range_with_len 1 total) q)
-            (Decides-like (is_member nat_eq (map seq_of own) q) (seqs_in_row q) (row_in_seqs q) (is_member-Decides Decides-eqb (map seq_of own) q)))
+      (distinct_seqs m own (apart-filter of_member xs apart) own_member)
+      (λ q. same_from_decides (is_member nat_eq (range_with_len 1 total) q) (is_member nat_eq (map seq_of own) q)
+      (is_member-Decides Decides-eqb (range_with_len 1 total) q)
+      (Decides-like (is_member nat_eq (map seq_of own) q) (seqs_in_row q) (row_in_seqs q) (is_member-Decides Decides-eqb (map seq_of own) q)))
       ∙ length-map own seq_of
       ∙ length-filter of_member xs

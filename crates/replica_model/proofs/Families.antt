@@ -292,6 +292,9 @@ module _ {State Op : Type 0} (m : Meaning State Op) (n : ℕ) (xs ys : List (Thi
             | inr i ↦ batch_at m n (xs ++ ys) family a i
           ]
 
+  pub family_copied : (b : Batch Op) → IsHonestFamily m n (xs ++ ys) → Contains (xs ++ ys) (batch b) → IsHonestFamily m n (xs ++ batch b ∷ ys)
+  family_copied b family c = family_sent b family (batch_at m n (xs ++ ys) family b c) (λ e d. operations_have (xs ++ ys) (batch b) e c d)
+
 -- an export has operations of the replica, by key
 
 pub in_exported : {Op : Type 0} (r : Replica Op) (to : Option ℕ) (e : Entry Op) → Contains (exported r to).ops e → Contains r.delivered e

@@ -48,8 +48,8 @@ pub record IsSoundReplica {Op : Type 0} (n : ℕ) (r : Replica Op) : Type 0 wher
   pub apart : (e : Entry Op) → Contains r.delivered e → Contains r.waiting e → ⊥
   pub waits : All (WaitsIn (r.delivered ++ r.waiting)) r.waiting
 
--- What honest members leave of a replica and a batch: their operations are one honest set, each list of them is by key,
--- and what is in the replica is closed.
+-- A replica and a batch that honest members made: their operations together are an honest set, each list of them is by
+-- key, and what is delivered is closed.
 pub record MayMerge {Op : Type 0} (r : Replica Op) (b : Batch Op) : Type 0 where
   pub honest : IsHonest ((r.delivered ++ r.waiting) ++ b.ops)
   pub stamped : All (λ e. IsStamp e.stamp) ((r.delivered ++ r.waiting) ++ b.ops)

@@ -49,12 +49,15 @@ pub fn family_goes_on<T: Tower>(tower: &T)
         → Contains (xs ++ replica r ∷ ys) (batch b) → IsHonestFamily (T.meaning tower.now) n (xs ++ replica (merged r b) ∷ ys) }
 {}
 
-/// An honest family stays honest when a replica is exported, be it in the place of an older batch, and when a batch is lost.
+/// An honest family stays honest when a replica is exported, be it in the place of an older batch, and when a batch is
+/// copied or lost.
 pub fn family_sends<T: Tower>(tower: &T)
     ensures exported { (n : ℕ) (xs ys : List (Thing T.Op)) (r : Replica T.Op) (to : Option ℕ) → IsHonestFamily (T.meaning tower.now) n (xs ++ ys)
         → Contains (xs ++ ys) (replica r) → IsHonestFamily (T.meaning tower.now) n (xs ++ batch (exported r to) ∷ ys) }
     ensures exported_over { (n : ℕ) (xs ys : List (Thing T.Op)) (r : Replica T.Op) (b : Batch T.Op) (to : Option ℕ) → IsHonestFamily (T.meaning tower.now) n (xs ++ batch b ∷ ys)
         → Contains (xs ++ batch b ∷ ys) (replica r) → IsHonestFamily (T.meaning tower.now) n (xs ++ batch (exported r to) ∷ ys) }
+    ensures copied { (n : ℕ) (xs ys : List (Thing T.Op)) (b : Batch T.Op) → IsHonestFamily (T.meaning tower.now) n (xs ++ ys)
+        → Contains (xs ++ ys) (batch b) → IsHonestFamily (T.meaning tower.now) n (xs ++ batch b ∷ ys) }
     ensures lost { (n : ℕ) (xs ys : List (Thing T.Op)) (b : Batch T.Op) → IsHonestFamily (T.meaning tower.now) n (xs ++ batch b ∷ ys) → IsHonestFamily (T.meaning tower.now) n (xs ++ ys) }
 {}
 
