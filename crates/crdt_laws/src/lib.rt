@@ -4,7 +4,9 @@
 mod sets;
 mod small;
 mod tower;
+mod union;
 
 pub use sets::canonical_list;
 pub use small::{Bytes, Entry, List, Names, NoMemory, Ops, Txt};
 pub use tower::{Tower, is_lawful, is_within};
+pub use union::together;
