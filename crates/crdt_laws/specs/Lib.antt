@@ -3,3 +3,4 @@ pub mod Present
 pub mod Sets
 pub mod Tower
 pub mod Interleaved
+pub mod Document

@@ -1,11 +1,13 @@
 //! Towers of operations, the laws that they keep, the sets of operations, and the small types of documents.
 #![tactic(auto)]
 
+mod present;
 mod sets;
 mod small;
 mod tower;
 mod union;
 
+pub use present::document;
 pub use sets::canonical_list;
 pub use small::{Bytes, Entry, List, Names, NoMemory, Ops, Txt};
 pub use tower::{Tower, is_lawful, is_within};
