@@ -1,9 +1,9 @@
 -- The operations of two sets as one list.
-use Rattle.std.proofs.Common.{◌≡◌, true, false, Bool, not, List, [], ◌∷◌, ◌++◌, cond, refl, sym, ◌∙◌, arith, ◌⊎◌, ◌↔◌, inl, inr, subst, Contains}
+use Rattle.std.proofs.Common.{◌≡◌, true, false, Bool, not, List, [], ◌∷◌, ◌++◌, cond, refl, sym, ◌∙◌, arith, ◌⊎◌, ◌↔◌, inl, inr, subst, All, Contains}
 use Rattle.std.specs.List.{AllByRecursion, filter}
 use Rattle.std.proofs.lemmas.Bool.{false_from_ne_true}
 use Rattle.std.proofs.lemmas.Bool.Decides.{nat_tests}
-use Rattle.std.proofs.lemmas.List.Elements.{Contains-append_left, Contains-append_right, Contains-append_cases}
+use Rattle.std.proofs.lemmas.List.Elements.{All-contains, All-from_recursion, Contains-append_left, Contains-append_right, Contains-append_cases}
 use Rattle.vector_clock.specs.declared.stamp.Stamp.{Stamp}
 use Rattle.vector_clock.specs.Stamp.{id_of, is_below, same_id}
 use Rattle.vector_clock.proofs.Keys.{key_irreflexive}
@@ -155,11 +155,44 @@ together_within xs ys a b sub =
       λ c. together_first xs ys e ((Contains-canonical xs e).1 c),
     ))
 
-together_part : {Op : Type 0} (xs ys zs : List (Entry Op)) → IsHonest ((xs ++ ys) ++ zs) → IsHonest (together xs ys ++ zs)
-together_part xs ys zs = honest_part ((xs ++ ys) ++ zs) (together xs ys ++ zs) (λ e c. elim (Contains-append_cases (together xs ys) zs e c) [
-  | inl i ↦ Contains-append_left (xs ++ ys) zs e (elim (together_from xs ys e i) [
-    | inl j ↦ Contains-append_left xs ys e j
-    | inr j ↦ Contains-append_right xs ys e j
-  ])
-  | inr i ↦ Contains-append_right (xs ++ ys) zs e i
-])
+-- a list of parts of an honest set is an honest set's
+honest_parts : {Op : Type 0} (all xs ys : List (Entry Op)) → IsHonest all → ((e : Entry Op) → Contains xs e → Contains all e) → ((e : Entry Op) → Contains ys e → Contains all e) → IsHonest (xs ++ ys)
+honest_parts all xs ys h left right = honest_part all (xs ++ ys) (λ e c. elim (Contains-append_cases xs ys e c) [ inl i ↦ left e i | inr i ↦ right e i ]) h
+
+grouped : {A B C : Type 0} → (A ⊎ B) ⊎ C → A ⊎ (B ⊎ C)
+grouped (inl (inl a)) = inl a
+grouped (inl (inr b)) = inr (inl b)
+grouped (inr c) = inr (inr c)
+
+regrouped : {A B C : Type 0} → A ⊎ (B ⊎ C) → (A ⊎ B) ⊎ C
+regrouped (inl a) = inl (inl a)
+regrouped (inr (inl b)) = inl (inr b)
+regrouped (inr (inr c)) = inr c
+
+either : {A B C D : Type 0} → (A → C) → (B → D) → A ⊎ B → C ⊎ D
+either f g (inl a) = inl (f a)
+either f g (inr b) = inr (g b)
+
+pub together_associates : {Op : Type 0} (xs ys zs : List (Entry Op)) → IsHonest ((xs ++ ys) ++ zs) → AreApart xs → AreApart ys → AreApart zs → together (together xs ys) zs ≡ together xs (together ys zs)
+together_associates {Op} xs ys zs h a b c =
+    let all : List (Entry Op) = (xs ++ ys) ++ zs in
+    let x : (e : Entry Op) → Contains xs e → Contains all e = λ e i. Contains-append_left (xs ++ ys) zs e (Contains-append_left xs ys e i) in
+    let y : (e : Entry Op) → Contains ys e → Contains all e = λ e i. Contains-append_left (xs ++ ys) zs e (Contains-append_right xs ys e i) in
+    let z : (e : Entry Op) → Contains zs e → Contains all e = λ e i. Contains-append_right (xs ++ ys) zs e i in
+    let xy : (e : Entry Op) → Contains (together xs ys) e → Contains all e = λ e i. elim (together_from xs ys e i) [ inl j ↦ x e j | inr j ↦ y e j ] in
+    let yz : (e : Entry Op) → Contains (together ys zs) e → Contains all e = λ e i. elim (together_from ys zs e i) [ inl j ↦ y e j | inr j ↦ z e j ] in
+    let p : IsHonest (together xs ys ++ zs) = honest_parts all (together xs ys) zs h xy z in
+    let q : IsHonest (xs ++ together ys zs) = honest_parts all xs (together ys zs) h x yz in
+    let first : IsHonest (xs ++ ys) = honest_parts all xs ys h x y in
+    let last : IsHonest (ys ++ zs) = honest_parts all ys zs h y z in
+    let d : AreApart (together xs ys) = rising_apart (together xs ys) (honest_part all (together xs ys) xy h) (together_rises xs ys a b) in
+    let e : AreApart (together ys zs) = rising_apart (together ys zs) (honest_part all (together ys zs) yz h) (together_rises ys zs b c) in
+    rising_same (together (together xs ys) zs) (together xs (together ys zs)) (together_rises (together xs ys) zs d c) (together_rises xs (together ys zs) a e) (λ f. (
+      λ i. (together_elements xs (together ys zs) q f).1 (either (λ j. j) (together_elements ys zs last f).1 (grouped (either (together_from xs ys f) (λ j. j) (together_from (together xs ys) zs f i)))),
+      λ i. (together_elements (together xs ys) zs p f).1 (either (together_elements xs ys first f).1 (λ j. j) (regrouped (either (λ j. j) (together_from ys zs f) (together_from xs (together ys zs) f i)))),
+    ))
+
+-- what all have of both lists, all have of a list that has no others
+pub all_of_both : {X : Type 0} (P : X → Type 0) (xs ys r : List X) → ((e : X) → Contains r e → Contains xs e ⊎ Contains ys e) → All P xs → All P ys → All P r
+all_of_both P xs ys r from h k =
+    All-from_recursion P r (all_weaker (Contains r) P (λ e c. elim (from e c) [ inl i ↦ All-contains P xs e h i | inr i ↦ All-contains P ys e k i ]) r (each r))

@@ -8,7 +8,10 @@ mod tower;
 mod union;
 
 pub use present::document;
-pub use sets::canonical_list;
+pub use sets::{canonical_list, document_alone, list_together};
 pub use small::{Bytes, Entry, List, Names, NoMemory, Ops, Txt};
 pub use tower::{Tower, is_lawful, is_within};
 pub use union::together;
+
+#[cfg(test)]
+mod tests;

@@ -82,6 +82,7 @@ pub fn together<Op: Drop>(alloc: Global, xs: Ops<Op>, ys: Ops<Op>) -> Result<Ops
     ensures joined { IfOk result (λ r. IsHonest (xs ++ ys) → r ≡ together xs ys) }
     ensures rises { IfOk result (λ r. IsRising r) }
     ensures from { IfOk result (λ r. (e : Entry Op) → Contains r e → Contains xs e ⊎ Contains ys e) }
+    ensures stamps { IfOk result (λ r. All (λ e. IsStamp e.stamp) r) }
 {
     let Ops { items } = xs;
     let mut left = VecDeque::from(items);

@@ -2,6 +2,8 @@ use Rattle.std.proofs.Common.{◌≡◌, ◌++◌, ◌⊎◌, [], ap, arith, inl
 use Rattle.std.proofs.lemmas.Bool.Decides.{nat_tests}
 use Rattle.crdt_laws.specs.Interleaved.{interleaved}
 use Rattle.crdt_laws.specs.Sets.{IsRising}
+use Rattle.vector_clock.specs.Stamp.{IsStamp}
+use Rattle.crdt_laws.proofs.Both.{all_of_both}
 use Rattle.crdt_laws.proofs.Interleave.{emptied, interleaved_from_both, interleaved_together, last_step, rising-interleaved}
 use Rattle.crdt_laws.proofs.union.together.Given as given
 use Rattle.crdt_laws.proofs.union.together.Goals as goal
@@ -27,3 +29,7 @@ returns-clause-joined g c = λ h. all_in g c ∙ interleaved_together c.args.xs 
 
 pub returns-clause-from : goal.returns-clause-from
 returns-clause-from g c = λ e k. interleaved_from_both c.args.xs c.args.ys e (subst (λ l. Contains l e) (all_in g c) k)
+
+pub returns-clause-stamps : goal.returns-clause-stamps
+returns-clause-stamps g c =
+    all_of_both (λ e. IsStamp e.stamp) c.args.xs c.args.ys c.move_all-2.new.to (λ e k. interleaved_from_both c.args.xs c.args.ys e (subst (λ l. Contains l e) (all_in g c) k)) c.requires.left_stamps c.requires.right_stamps
