@@ -1,0 +1,4 @@
+pub mod Edit
+pub mod Export
+pub mod Joins
+pub mod Steps

@@ -1,8 +1,11 @@
 ghost use Rattle.std.specs.Prelude.{◌≡◌};
 
-use crdt_laws::{List, Ops, Tower, Txt};
+use crate::copies::{copy_beyond, copy_text};
+use crate::rows::{floor, row, with_row};
+use crdt_laws::{List, NoMemory, Ops, Tower, Txt};
+use std::alloc::Global;
 use std::marker::Model;
-use vector_clock::Clock;
+use vector_clock::{Clock, Stamp};
 
 /// A replica of a document over a tower: what is delivered, what waits, and what each member is known to have.
 #[derive(Drop)]
@@ -20,6 +23,95 @@ impl<T: Tower> Model for Replica<T> {
     ghost Value = { Replica T.Op };
 
     ghost view = { λ r. record { doc = r.doc; me = r.me; delivered = r.delivered; waiting = r.waiting; known = r.known } };
+}
+
+impl<T: Tower> Replica<T> {
+    ghost use Rattle.std.specs.Prelude.{◌≡◌, ℕ, ◌+◌, ◌<◌, ◌≤◌, IfOk, IfSome, option_map};
+    ghost use Rattle.std.specs.List.{All};
+    ghost use Rattle.replica_model.specs.Replica.{edited, exported, members, new_replica, next_stamp, row, version};
+    ghost use Rattle.replica_core.specs.Kept.{IsBatchUpTo, IsKept, IsKeptBatch, IsKnown, IsReplicaUpTo};
+
+    /// A replica that has nothing, of the member `me` in a document with `n` members, or `NoMemory`.
+    #[tactic(auto, unfolding(replica_model::specs::Replica::new_replica))]
+    pub fn new(alloc: Global, doc: Txt, me: u8, n: u8) -> Result<Replica<T>, NoMemory>
+        requires member { me < n }
+        requires most { n ≤ 16 }
+        ensures new { IfOk result (λ r. r ≡ new_replica doc me n) }
+        ensures kept { (t : T) → IfOk result (λ r. IsKept (T.meaning t) r) }
+        ensures up_to { IfOk result (λ r. IsReplicaUpTo 0 r) }
+    {
+        let mut known = List::new(alloc);
+        for _i in 0..n {
+            known.push(Clock::zero(n))?;
+        }
+        Ok(Replica {
+            doc,
+            me,
+            delivered: Ops::new(alloc),
+            waiting: Ops::new(alloc),
+            known,
+        })
+    }
+
+    /// The stamp of the member's next operation, in constant time: its own row, with one more operation of its own.
+    pub fn next_stamp(&self) -> Stamp
+        requires member { self.now.me < members self.now }
+        requires rows { All (IsKnown (members self.now)) self.now.known }
+        requires own { row self.now.known self.now.me ≡ version (members self.now) self.now.delivered }
+        ensures { result ≡ next_stamp self.now }
+    {
+        let own = row(&self.known, self.me);
+        Stamp {
+            member: self.me,
+            clock: own.with(self.me, own.count(self.me) + 1),
+        }
+    }
+
+    /// The replica after an operation of its own member, or `NoMemory`. The operation has the greatest key, so it stands last.
+    pub fn edit(self, alloc: Global, tower: &T, op: T::Op) -> Result<Replica<T>, NoMemory>
+        requires kept { IsKept (T.meaning tower.now) self }
+        requires valid { (T.meaning tower.now).valid (next_stamp self) op }
+        ensures edited { IfOk result (λ r. r ≡ edited self op) }
+        ensures kept { IfOk result (λ r. IsKept (T.meaning tower.now) r) }
+        ensures up_to { (k : ℕ) → IsReplicaUpTo k self → IfOk result (λ r. IsReplicaUpTo (k + 1) r) }
+    {
+        let stamp = self.next_stamp();
+        let Replica {
+            doc,
+            me,
+            mut delivered,
+            waiting,
+            known,
+        } = self;
+        delivered.push(stamp, op)?;
+        Ok(Replica {
+            doc,
+            me,
+            delivered,
+            waiting,
+            known: with_row(known, me, stamp.clock),
+        })
+    }
+
+    /// A batch for a member, or for all where none is given: the operations that are in, but for those that it is known to have.
+    pub fn export(&self, alloc: Global, tower: &T, to: Option<u8>) -> Result<Batch<T::Op>, NoMemory>
+        requires kept { IsKept (T.meaning tower.now) self.now }
+        requires to { IfSome to (λ j. j < members self.now) }
+        ensures exported { IfOk result (λ b. b ≡ exported self.now to) }
+        ensures kept { IfOk result (λ b. IsKeptBatch (T.meaning tower.now) (members self.now) b) }
+        ensures up_to { (k : ℕ) → IsReplicaUpTo k self.now → IfOk result (λ b. IsBatchUpTo k b) }
+    {
+        let known = match to {
+            Some(member) => row(&self.known, member),
+            None => floor(&self.known),
+        };
+        Ok(Batch {
+            doc: copy_text(alloc, &self.doc)?,
+            sender: self.me,
+            header: row(&self.known, self.me),
+            ops: copy_beyond(alloc, tower, &known, self.delivered.as_slice())?,
+        })
+    }
 }
 
 /// Operations on their way from one member to others.
@@ -42,6 +134,6 @@ impl<Op> Model for Batch<Op> {
 /// What a merge did: how many operations it delivered, and how many wait after it.
 #[derive(Clone, Copy, Debug, PartialEq, Eq)]
 pub struct Merged {
-    pub delivered: u32,
-    pub waiting: u32,
+    pub delivered: usize,
+    pub waiting: usize,
 }
