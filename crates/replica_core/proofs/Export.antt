@@ -15,7 +15,7 @@ use Rattle.replica_model.specs.Replica.{Batch, Replica, beyond, exported, left_o
 use Rattle.replica_core.specs.Kept.{AreKept, IsBatchUpTo, IsKept, IsKeptBatch, IsKnown, IsReplicaUpTo, IsUpTo}
 use Rattle.replica_core.proofs.Edit.{kept_from}
 
-none_counted : (n j : ℕ) → count (zero_clock n) j ≡ 0
+pub none_counted : (n j : ℕ) → count (zero_clock n) j ≡ 0
 none_counted n j = elim (cases_lt j 16) [
   | inl h ↦ get_or-replicate 16 j 0 0 h
   | inr h ↦ get_or_past (replicate 16 0) j 0 h

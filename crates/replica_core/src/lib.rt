@@ -2,6 +2,7 @@
 #![tactic(auto)]
 
 mod copies;
+mod pool;
 mod replica;
 mod rows;
 

@@ -1,0 +1,61 @@
+ghost use Rattle.std.specs.Prelude.{◌≡◌, ℕ, ◌≤◌, IfOk, not};
+ghost use Rattle.std.specs.List.{All, filter};
+ghost use Rattle.replica_core.specs.Frontier.{frontier, is_at_most};
+ghost use Rattle.replica_core.specs.Kept.{IsKnown};
+ghost use Rattle.replica_core.specs.Rows.{IsFrom};
+
+use crdt_laws::{Entry, NoMemory, Ops};
+use std::alloc::Global;
+use vector_clock::Clock;
+
+/// For each member, how many of its operations there are without a gap. They are given by key, so an honest member's stand by their numbers.
+pub(crate) fn frontier<Op>(n: u8, ops: &[Entry<Op>]) -> Clock
+    requires some { 1 ≤ n }
+    requires most { n ≤ 16 }
+    requires ops { All (IsFrom n) ops.now }
+    ensures frontier { result ≡ frontier n ops.now }
+    ensures known { IsKnown n result }
+{
+    let mut front = Clock::zero(n);
+    for e in ops.iter() {
+        let id = e.stamp.id();
+        if id.seq == front.count(id.member) + 1 {
+            front = front.with(id.member, id.seq);
+        }
+    }
+    front
+}
+
+/// Whether the operation knows only of operations before the frontier.
+fn is_ready<Op>(e: &Entry<Op>, n: u8, front: &Clock) -> bool
+    requires entry { IsFrom n e.now }
+    requires front { IsKnown n front.now }
+    ensures { result ≡ is_at_most e.now.stamp.clock front.now }
+{
+    e.stamp.clock.le(front)
+}
+
+/// The operations that know only of operations before the frontier, and the others.
+pub(crate) fn split<Op: Drop>(
+    alloc: Global,
+    ops: Ops<Op>,
+    n: u8,
+    front: &Clock,
+) -> Result<(Ops<Op>, Ops<Op>), NoMemory>
+    requires ops { All (IsFrom n) ops }
+    requires front { IsKnown n front.now }
+    ensures ready { IfOk result (λ x. x.0 ≡ filter (λ e. is_at_most e.stamp.clock front.now) ops) }
+    ensures unready { IfOk result (λ x. x.1 ≡ filter (λ e. not (is_at_most e.stamp.clock front.now)) ops) }
+{
+    let mut ready = Ops::new(alloc);
+    let mut unready = Ops::new(alloc);
+    let Ops { items } = ops;
+    for e in items {
+        if is_ready(&e, n, front) {
+            ready.push(e.stamp, e.op)?;
+        } else {
+            unready.push(e.stamp, e.op)?;
+        }
+    }
+    Ok((ready, unready))
+}
