@@ -61,7 +61,7 @@ up_to_sent r to k l u = record {
   ops = All-filter _ (λ e. IsUpTo k e.stamp.clock) r.delivered u.delivered;
 }
 
-known_zero : (n : ℕ) → 1 ≤ n → n ≤ 16 → IsKnown n (zero_clock n)
+pub known_zero : (n : ℕ) → 1 ≤ n → n ≤ 16 → IsKnown n (zero_clock n)
 known_zero n some most =
     let none : (j : ℕ) → count (zero_clock n) j ≡ 0 = none_counted n in
     record {

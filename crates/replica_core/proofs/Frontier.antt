@@ -8,12 +8,12 @@ use Rattle.std.proofs.lemmas.List.{get_or-set_other, get_or-set_same, length-set
 use Rattle.std.proofs.lemmas.List.Elements.{recursion_from_All}
 use Rattle.vector_clock.specs.declared.clock.Clock.{Clock}
 use Rattle.vector_clock.specs.declared.stamp.Stamp.{Stamp}
-use Rattle.vector_clock.specs.Clock.{IsAtMost, count, covers, with_entry, zero_clock}
-use Rattle.vector_clock.specs.Stamp.{id_of, is_before, is_below, same_id}
+use Rattle.vector_clock.specs.Clock.{IsAtMost, count, with_entry, zero_clock}
+use Rattle.vector_clock.specs.Stamp.{is_before, is_below, same_id}
 use Rattle.vector_clock.proofs.Keys.{below_known, key_asym, key_irreflexive, same_id_from}
 use Rattle.crdt_laws.specs.declared.small.Entry.{Entry}
-use Rattle.crdt_laws.specs.Sets.{IsHonest, IsRising, has_all_of, has_name}
-use Rattle.crdt_laws.proofs.Filters.{all-filter, all_both, all_weaker}
+use Rattle.crdt_laws.specs.Sets.{IsHonest, IsRising, has_all_of}
+use Rattle.crdt_laws.proofs.Filters.{all_both, all_weaker}
 use Rattle.crdt_laws.proofs.Members.{each}
 use Rattle.replica_core.specs.Frontier.{counted, frontier, is_at_most}
 use Rattle.crdt_laws.specs.Tower.{max_seq}

@@ -1,10 +1,13 @@
-ghost use Rattle.std.specs.Prelude.{◌≡◌, ℕ, ◌≤◌, IfOk, not};
-ghost use Rattle.std.specs.List.{All, filter};
+ghost use Rattle.std.specs.Prelude.{◌≡◌, ◌++◌, ◌≤◌, ℕ, IfOk, not};
+ghost use Rattle.std.specs.List.{All, Contains, filter};
+ghost use Rattle.crdt_laws.specs.declared.small.Entry.{Entry};
+ghost use Rattle.crdt_laws.specs.Sets.{IsHonest, together};
+ghost use Rattle.replica_model.specs.Replica.{ready, unready};
 ghost use Rattle.replica_core.specs.Frontier.{frontier, is_at_most};
 ghost use Rattle.replica_core.specs.Kept.{IsKnown};
-ghost use Rattle.replica_core.specs.Rows.{IsFrom};
+ghost use Rattle.replica_core.specs.Rows.{AreByKey, IsFrom};
 
-use crdt_laws::{Entry, NoMemory, Ops};
+use crdt_laws::{Entry, NoMemory, Ops, together};
 use std::alloc::Global;
 use vector_clock::Clock;
 
@@ -58,4 +61,46 @@ pub(crate) fn split<Op: Drop>(
         }
     }
     Ok((ready, unready))
+}
+
+/// All operations that there are once others have arrived.
+fn pool<Op: Drop>(
+    alloc: Global,
+    n: u8,
+    delivered: Ops<Op>,
+    waiting: Ops<Op>,
+    arrived: Ops<Op>,
+) -> Result<Ops<Op>, NoMemory>
+    requires delivered { AreByKey n delivered }
+    requires waiting { AreByKey n waiting }
+    requires arrived { AreByKey n arrived }
+    ensures pooled { IfOk result (λ all. IsHonest ((delivered ++ waiting) ++ arrived) → all ≡ together (together delivered waiting) arrived) }
+    ensures by_key { IfOk result (AreByKey n) }
+    ensures from { IfOk result (λ all. (e : Entry Op) → Contains all e → Contains ((delivered ++ waiting) ++ arrived) e) }
+{
+    let own = together(alloc, delivered, waiting)?;
+    together(alloc, own, arrived)
+}
+
+/// All operations once others have arrived, as those that know only of operations among them, and the others.
+pub(crate) fn sift<Op: Drop>(
+    alloc: Global,
+    n: u8,
+    delivered: Ops<Op>,
+    waiting: Ops<Op>,
+    arrived: Ops<Op>,
+) -> Result<(Ops<Op>, Ops<Op>), NoMemory>
+    requires some { 1 ≤ n }
+    requires most { n ≤ 16 }
+    requires delivered { AreByKey n delivered }
+    requires waiting { AreByKey n waiting }
+    requires arrived { AreByKey n arrived }
+    ensures sifted { IfOk result (λ x. IsHonest ((delivered ++ waiting) ++ arrived) → let all = together (together delivered waiting) arrived in (x.0 ≡ ready all) × (x.1 ≡ unready all)) }
+    ensures by_key { IfOk result (λ x. AreByKey n x.0 × AreByKey n x.1) }
+    ensures ready_from { IfOk result (λ x. (e : Entry Op) → Contains x.0 e → Contains ((delivered ++ waiting) ++ arrived) e) }
+    ensures unready_from { IfOk result (λ x. (e : Entry Op) → Contains x.1 e → Contains ((delivered ++ waiting) ++ arrived) e) }
+{
+    let all = pool(alloc, n, delivered, waiting, arrived)?;
+    let front = frontier(n, all.as_slice());
+    split(alloc, all, n, &front)
 }

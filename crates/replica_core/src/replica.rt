@@ -1,7 +1,8 @@
 ghost use Rattle.std.specs.Prelude.{◌≡◌};
 
 use crate::copies::{copy_beyond, copy_text};
-use crate::rows::{floor, row, with_row};
+use crate::pool::sift;
+use crate::rows::{floor, row, rows_after, with_row};
 use crdt_laws::{List, NoMemory, Ops, Tower, Txt};
 use std::alloc::Global;
 use std::marker::Model;
@@ -26,9 +27,10 @@ impl<T: Tower> Model for Replica<T> {
 }
 
 impl<T: Tower> Replica<T> {
-    ghost use Rattle.std.specs.Prelude.{◌≡◌, ℕ, ◌+◌, ◌<◌, ◌≤◌, IfOk, IfSome, option_map};
+    ghost use Rattle.std.specs.Prelude.{◌≡◌, ℕ, ◌+◌, ◌-◌, ◌<◌, ◌≤◌, ◌++◌, length, IfOk, IfSome};
     ghost use Rattle.std.specs.List.{All};
-    ghost use Rattle.replica_model.specs.Replica.{edited, exported, members, new_replica, next_stamp, row, version};
+    ghost use Rattle.crdt_laws.specs.Sets.{IsHonest};
+    ghost use Rattle.replica_model.specs.Replica.{edited, exported, members, merged, new_replica, next_stamp, row, version};
     ghost use Rattle.replica_core.specs.Kept.{IsBatchUpTo, IsKept, IsKeptBatch, IsKnown, IsReplicaUpTo};
 
     /// A replica that has nothing, of the member `me` in a document with `n` members, or `NoMemory`.
@@ -111,6 +113,53 @@ impl<T: Tower> Replica<T> {
             header: row(&self.known, self.me),
             ops: copy_beyond(alloc, tower, &known, self.delivered.as_slice())?,
         })
+    }
+
+    /// The replica after a batch, with what the merge did, or `NoMemory`. An operation that the replica has already stands once;
+    /// what knows of an operation that is not there waits.
+    pub fn merge(
+        self,
+        alloc: Global,
+        tower: &T,
+        batch: Batch<T::Op>,
+    ) -> Result<(Replica<T>, Merged), NoMemory>
+        requires kept { IsKept (T.meaning tower.now) self }
+        requires batch { IsKeptBatch (T.meaning tower.now) (members self) batch }
+        ensures merged { IfOk result (λ x. IsHonest ((self.delivered ++ self.waiting) ++ batch.ops) → x.0 ≡ merged self batch) }
+        ensures delivered { IfOk result (λ x. x.1.delivered ≡ length x.0.delivered - length self.delivered) }
+        ensures waiting { IfOk result (λ x. x.1.waiting ≡ length x.0.waiting) }
+        ensures same { IfOk result (λ x. (x.0.doc ≡ self.doc) × (x.0.me ≡ self.me) × (members x.0 ≡ members self)) }
+        ensures kept { IfOk result (λ x. IsKept (T.meaning tower.now) x.0) }
+        ensures up_to { (k : ℕ) → IsReplicaUpTo k self → IsBatchUpTo k batch → IfOk result (λ x. IsReplicaUpTo k x.0) }
+    {
+        let Replica {
+            doc,
+            me,
+            delivered,
+            waiting,
+            known,
+        } = self;
+        let Batch {
+            doc: _,
+            sender,
+            header,
+            ops,
+        } = batch;
+        let before = delivered.len();
+        let (delivered, waiting) = sift(alloc, known.len() as u8, delivered, waiting, ops)?;
+        let did = Merged {
+            delivered: delivered.len().saturating_sub(before),
+            waiting: waiting.len(),
+        };
+        let known = rows_after(known, me, sender, &header, delivered.as_slice());
+        let replica = Replica {
+            doc,
+            me,
+            delivered,
+            waiting,
+            known,
+        };
+        Ok((replica, did))
     }
 }
 

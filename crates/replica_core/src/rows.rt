@@ -2,7 +2,7 @@ ghost use Rattle.std.specs.Prelude.{◌≡◌, ℕ, ◌<◌, ◌≤◌, length, 
 ghost use Rattle.std.specs.List.{All};
 ghost use Rattle.replica_model.specs.Replica.{heard, heard_header, meet_all, row, version};
 ghost use Rattle.replica_core.specs.Kept.{IsKnown};
-ghost use Rattle.replica_core.specs.Rows.{IsFrom};
+ghost use Rattle.replica_core.specs.Rows.{IsFrom, rows_after};
 
 use crdt_laws::{Entry, List};
 use vector_clock::Clock;
@@ -92,4 +92,25 @@ pub(crate) fn heard_header(
     } else {
         rows
     }
+}
+
+/// The rows once these operations are in: each member's own clocks, the sender's header, and the own row.
+pub(crate) fn rows_after<Op>(
+    rows: List<Clock>,
+    me: u8,
+    sender: u8,
+    header: &Clock,
+    ops: &[Entry<Op>],
+) -> List<Clock>
+    requires me { me < length rows }
+    requires most { length rows ≤ 16 }
+    requires sender { sender < length rows }
+    requires rows { All (IsKnown (length rows)) rows }
+    requires header { IsKnown (length rows) header.now }
+    requires ops { All (IsFrom (length rows)) ops.now }
+    ensures { result ≡ rows_after rows me sender header.now ops.now }
+{
+    let own = version(rows.len() as u8, ops);
+    let heard = heard_header(heard(rows, ops), sender, header, &own);
+    with_row(heard, me, own)
 }
