@@ -15,7 +15,7 @@ use Rattle.vector_clock.specs.Stamp.{is_below}
 use Rattle.vector_clock.proofs.Keys.{below_known, key_asym}
 use Rattle.crdt_laws.specs.declared.small.Entry.{Entry}
 use Rattle.crdt_laws.specs.Entry.{entry}
-use Rattle.crdt_laws.specs.Tower.{IsIssued, IsLawful, IsWithin, Meaning}
+use Rattle.crdt_laws.specs.Tower.{IsStampOf, IsIssued, IsLawful, IsWithin, Meaning}
 use Rattle.crdt_laws.specs.Sets.{AreIssued, IsRising, place}
 use Rattle.crdt_laws.proofs.Filters.{all-append, all_weaker}
 use Rattle.vector_clock.proofs.Clocks.{length-clock_by}
@@ -60,6 +60,22 @@ clock-next n k j h l = record {
     | inr e ↦ (let o = other_count k j i e in let w = h.clock.empty_past i p in omega arith)
   ];
 }
+
+stamp-next : (n : ℕ) (k : Clock) (j : ℕ) → IsKnown n k → j < n → IsStampOf n (record { member = j; clock = next k j })
+stamp-next n k j h l = record {
+  stamp = record {
+    clock = clock-next n k j h l;
+    member = subst (λ i. j < i) (sym h.members) l;
+    counted = (let own = own_count n k j h l in omega arith);
+  };
+  members = h.members;
+}
+
+-- the stamp of the member's next operation, by its own row
+pub stamp_of_next : {Op : Type 0} (r : Replica Op) (s : Stamp) → r.me < members r → All (IsKnown (members r)) r.known → row r.known r.me ≡ version (members r) r.delivered → s ≡ next_stamp r → IsStampOf (members r) s
+stamp_of_next r s l rows own is =
+    subst (IsStampOf (members r)) (sym is)
+    (stamp-next (members r) (version (members r) r.delivered) r.me (subst (IsKnown (members r)) own (All-get_or (IsKnown (members r)) r.known r.me (zero_clock 1) l rows)) l)
 
 up_to-next : (u : ℕ) (n : ℕ) (k : Clock) (j : ℕ) → IsKnown n k → j < n → IsUpTo u k → IsUpTo (u + 1) (next k j)
 up_to-next u n k j h l up = record {
@@ -162,14 +178,7 @@ module _ {State Op : Type 0} (m : Meaning State Op) (law : IsLawful m) where
 
     issued : IsIssued m (members r) (next_stamp r) x
     issued = record {
-      stamp = record {
-        stamp = record {
-          clock = clock;
-          member = subst (λ k. r.me < k) (sym known_latest.members) h.member;
-          counted = (let own = own_count (members r) latest r.me known_latest h.member in omega arith);
-        };
-        members = known_latest.members;
-      };
+      stamp = stamp-next (members r) latest r.me known_latest h.member;
       valid = v;
     }
 

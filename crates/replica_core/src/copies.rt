@@ -54,7 +54,7 @@ fn copy_ops<T: Tower>(
     Ok(copies)
 }
 
-/// A copy of the batch, or `NoMemory`.
+/// A copy of the batch. `NoMemory` comes where there is none for it.
 pub fn copy_batch<T: Tower>(
     alloc: Global,
     tower: &T,

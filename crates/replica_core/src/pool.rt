@@ -11,7 +11,8 @@ use crdt_laws::{Entry, NoMemory, Ops, together};
 use std::alloc::Global;
 use vector_clock::Clock;
 
-/// For each member, how many of its operations there are without a gap. They are given by key, so an honest member's stand by their numbers.
+/// For each member, how many of its operations there are without a gap. All are given by key, so those of an honest member
+/// stand by their numbers.
 pub(crate) fn frontier<Op>(n: u8, ops: &[Entry<Op>]) -> Clock
     requires some { 1 ≤ n }
     requires most { n ≤ 16 }

@@ -8,13 +8,18 @@ use std::alloc::Global;
 use std::marker::Model;
 use vector_clock::{Clock, Stamp};
 
-/// A replica of a document over a tower: what is delivered, what waits, and what each member is known to have.
+/// A replica of a document over a tower. An edit, an export and a merge keep what `IsKept` says, whoever made the operations.
 #[derive(Drop)]
 pub struct Replica<T: Tower> {
+    /// The text of the document's schema.
     pub doc: Txt,
+    /// The member whose replica this is.
     pub me: u8,
+    /// The operations that are in, by key.
     pub delivered: Ops<T::Op>,
+    /// The operations that wait for others which they knew of, by key.
     pub waiting: Ops<T::Op>,
+    /// For each of the 1 to 16 members, what it is known to have: of the own member, all that is in.
     pub known: List<Clock>,
 }
 
@@ -29,11 +34,14 @@ impl<T: Tower> Model for Replica<T> {
 impl<T: Tower> Replica<T> {
     ghost use Rattle.std.specs.Prelude.{◌≡◌, ℕ, ◌+◌, ◌-◌, ◌<◌, ◌≤◌, ◌++◌, length, IfOk, IfSome};
     ghost use Rattle.std.specs.List.{All};
+    ghost use Rattle.crdt_laws.specs.Tower.{IsStampOf};
     ghost use Rattle.crdt_laws.specs.Sets.{IsHonest};
     ghost use Rattle.replica_model.specs.Replica.{edited, exported, members, merged, new_replica, next_stamp, row, version};
     ghost use Rattle.replica_core.specs.Kept.{IsBatchUpTo, IsKept, IsKeptBatch, IsKnown, IsReplicaUpTo};
 
-    /// A replica that has nothing, of the member `me` in a document with `n` members, or `NoMemory`.
+    /// A replica that has nothing, of the member `me` in a document with `n` members.
+    ///
+    /// `NoMemory` comes where there is none for the rows.
     #[tactic(auto, unfolding(replica_model::specs::Replica::new_replica))]
     pub fn new(alloc: Global, doc: Txt, me: u8, n: u8) -> Result<Replica<T>, NoMemory>
         requires member { me < n }
@@ -55,12 +63,13 @@ impl<T: Tower> Replica<T> {
         })
     }
 
-    /// The stamp of the member's next operation, in constant time: its own row, with one more operation of its own.
+    /// The stamp of the member's next operation: its own row, with one operation of its own more. It takes constant time.
     pub fn next_stamp(&self) -> Stamp
         requires member { self.now.me < members self.now }
         requires rows { All (IsKnown (members self.now)) self.now.known }
         requires own { row self.now.known self.now.me ≡ version (members self.now) self.now.delivered }
-        ensures { result ≡ next_stamp self.now }
+        ensures next { result ≡ next_stamp self.now }
+        ensures stamp { IsStampOf (members self.now) result }
     {
         let own = row(&self.known, self.me);
         Stamp {
@@ -69,7 +78,10 @@ impl<T: Tower> Replica<T> {
         }
     }
 
-    /// The replica after an operation of its own member, or `NoMemory`. The operation has the greatest key, so it stands last.
+    /// The replica after an operation of its own member, which the tower calls valid at the next stamp. Its key is the
+    /// greatest, since its stamp knows of all that is in, so it stands last.
+    ///
+    /// `NoMemory` comes where there is none for one operation more; the replica is then gone.
     pub fn edit(self, alloc: Global, tower: &T, op: T::Op) -> Result<Replica<T>, NoMemory>
         requires kept { IsKept (T.meaning tower.now) self }
         requires valid { (T.meaning tower.now).valid (next_stamp self) op }
@@ -95,7 +107,10 @@ impl<T: Tower> Replica<T> {
         })
     }
 
-    /// A batch for a member, or for all where none is given: the operations that are in, but for those that it is known to have.
+    /// A batch for one member: the operations that are in, but for those that it is known to have. Where no member is given,
+    /// but for those that all members are known to have.
+    ///
+    /// `NoMemory` comes where there is none for the copies.
     pub fn export(&self, alloc: Global, tower: &T, to: Option<u8>) -> Result<Batch<T::Op>, NoMemory>
         requires kept { IsKept (T.meaning tower.now) self.now }
         requires to { IfSome to (λ j. j < members self.now) }
@@ -115,8 +130,11 @@ impl<T: Tower> Replica<T> {
         })
     }
 
-    /// The replica after a batch, with what the merge did, or `NoMemory`. An operation that the replica has already stands once;
-    /// what knows of an operation that is not there waits.
+    /// The replica after a batch, with what the merge did. An operation that the replica has already stands once, and one
+    /// that knows of an operation which is not there waits. Each row is joined with the clocks of its member's operations, and
+    /// the sender's row with the header too, once all operations of the sender that the header counts are in.
+    ///
+    /// `NoMemory` comes where there is none for the lists; the replica and the batch are then gone.
     pub fn merge(
         self,
         alloc: Global,
@@ -166,9 +184,13 @@ impl<T: Tower> Replica<T> {
 /// Operations on their way from one member to others.
 #[derive(Drop)]
 pub struct Batch<Op> {
+    /// The text of the document's schema.
     pub doc: Txt,
+    /// The member that sent the batch.
     pub sender: u8,
+    /// What the sender had.
     pub header: Clock,
+    /// Operations of any members that the sender had, by key.
     pub ops: Ops<Op>,
 }
 
@@ -180,9 +202,11 @@ impl<Op> Model for Batch<Op> {
     ghost view = { λ b. record { doc = b.doc; sender = b.sender; header = b.header; ops = b.ops } };
 }
 
-/// What a merge did: how many operations it delivered, and how many wait after it.
+/// What a merge did.
 #[derive(Clone, Copy, Debug, PartialEq, Eq)]
 pub struct Merged {
+    /// How many operations are in that were not before.
     pub delivered: usize,
+    /// How many operations wait after it, those that waited before among them.
     pub waiting: usize,
 }

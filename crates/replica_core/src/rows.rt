@@ -71,7 +71,7 @@ pub(crate) fn heard<Op>(rows: List<Clock>, ops: &[Entry<Op>]) -> List<Clock>
     heard
 }
 
-/// The rows with that of the sender joined with its header, where the operations of the sender that the header counts are in.
+/// The rows with the sender's joined with its header, where all operations of the sender that the header counts are in.
 pub(crate) fn heard_header(
     rows: List<Clock>,
     sender: u8,

@@ -14,7 +14,7 @@ returns g c =
     let kept = c.requires.kept in
     let valid = c.requires.valid in
     let p : Replica _ = record { doc = c.self.inside.doc; me = c.self.inside.me; delivered = c.self.inside.delivered; waiting = c.self.inside.waiting; known = c.self.inside.known } in
-    let step = with_last_is c.next_stamp-stamp.result (next_stamp r) p r x c.push.new.self c.with_row.result c.self.view_is c.next_stamp-stamp.ensures c.in_ok-push.ensures.ok c.with_row.ensures in
+    let step = with_last_is c.next_stamp-stamp.result (next_stamp r) p r x c.push.new.self c.with_row.result c.self.view_is c.next_stamp-stamp.ensures.next c.in_ok-push.ensures.ok c.with_row.ensures in
     record {
       edited = step ∙ Edit.pushed_is t law r x kept valid;
       kept = subst (IsKept t) (sym step) (Edit.kept_pushed t law r x kept valid);
