@@ -15,7 +15,7 @@ use Rattle.vector_clock.specs.Stamp.{is_below}
 use Rattle.vector_clock.proofs.Keys.{below_known, key_asym}
 use Rattle.crdt_laws.specs.declared.small.Entry.{Entry}
 use Rattle.crdt_laws.specs.Entry.{entry}
-use Rattle.crdt_laws.specs.Tower.{IsStampOf, IsIssued, IsLawful, IsWithin, Meaning}
+use Rattle.crdt_laws.specs.Tower.{max_seq, IsStampOf, IsIssued, IsLawful, IsWithin, Meaning}
 use Rattle.crdt_laws.specs.Sets.{AreIssued, IsRising, place}
 use Rattle.crdt_laws.proofs.Filters.{all-append, all_weaker}
 use Rattle.vector_clock.proofs.Clocks.{length-clock_by}
@@ -84,6 +84,15 @@ up_to-next u n k j h l up = record {
     | inr e ↦ (let o = other_count k j i e in let w = up.each i in omega arith)
   ];
 }
+
+-- a replica that counts less than the limit has room for one operation more
+pub room_for_next : {Op : Type 0} (r : Replica Op) (s : Stamp) → r.me < members r → All (IsKnown (members r)) r.known → row r.known r.me ≡ version (members r) r.delivered → s ≡ next_stamp r → (k : ℕ) → k < max_seq → IsReplicaUpTo k r → IsWithin s
+room_for_next r s l rows own is k less u =
+    let latest = version (members r) r.delivered in
+    let known : IsKnown (members r) latest = subst (IsKnown (members r)) own (All-get_or (IsKnown (members r)) r.known r.me (zero_clock 1) l rows) in
+    let last : IsUpTo k latest = subst (IsUpTo k) own (All-get_or (IsUpTo k) r.known r.me (zero_clock 1) l u.rows) in
+    let next_up : IsUpTo (k + 1) (next_stamp r).clock = up_to-next k (members r) latest r.me known l last in
+    subst IsWithin (sym is) (record { each = λ i. omega (arith, next_up.each i) })
 
 -- the version knows what its operations know
 fold_knows : {Op : Type 0} (n : ℕ) (xs : List (Entry Op)) (k : Clock) → length k.at ≡ 16 → AllByRecursion (IsFrom n) xs → IsAtMost k (fold (λ j e. join j e.stamp.clock) k xs) × AllByRecursion (λ d. IsAtMost d.stamp.clock (fold (λ j e. join j e.stamp.clock) k xs)) xs

@@ -34,7 +34,7 @@ impl<T: Tower> Model for Replica<T> {
 impl<T: Tower> Replica<T> {
     ghost use Rattle.std.specs.Prelude.{◌≡◌, ℕ, ◌+◌, ◌-◌, ◌<◌, ◌≤◌, ◌++◌, length, IfOk, IfSome};
     ghost use Rattle.std.specs.List.{All};
-    ghost use Rattle.crdt_laws.specs.Tower.{IsStampOf};
+    ghost use Rattle.crdt_laws.specs.Tower.{IsStampOf, IsWithin, max_seq};
     ghost use Rattle.crdt_laws.specs.Sets.{IsHonest};
     ghost use Rattle.replica_model.specs.Replica.{edited, exported, members, merged, new_replica, next_stamp, row, version};
     ghost use Rattle.replica_core.specs.Kept.{IsBatchUpTo, IsKept, IsKeptBatch, IsKnown, IsReplicaUpTo};
@@ -70,6 +70,7 @@ impl<T: Tower> Replica<T> {
         requires own { row self.now.known self.now.me ≡ version (members self.now) self.now.delivered }
         ensures next { result ≡ next_stamp self.now }
         ensures stamp { IsStampOf (members self.now) result }
+        ensures within { (k : ℕ) → k < max_seq → IsReplicaUpTo k self.now → IsWithin result }
     {
         let own = row(&self.known, self.me);
         Stamp {
