@@ -1,6 +1,6 @@
 -- Files by their names, and what a store's answers say of them.
-use Rattle.std.specs.Prelude.{◌≡◌, ℕ, ◌<◌, ◌⊎◌, List, [], ◌∷◌, false, Option, None, Some, length, if◌then◌else◌}
-use Rattle.std.specs.List.{AllPairs}
+use Rattle.std.specs.Prelude.{◌≡◌, ℕ, ◌<◌, ◌⊎◌, List, [], ◌∷◌, Bool, true, not, ◌&&◌, IsTrue, Option, None, Some, length, if◌then◌else◌}
+use Rattle.std.specs.List.{list_all}
 use Rattle.std.specs.Map.{lookup}
 use Rattle.std.specs.Str.{bytes_eq}
 use Rattle.lab_store.specs.declared.store.StoreError.{StoreError}
@@ -15,14 +15,15 @@ abbrev pub with_file : List (List ℕ × List ℕ) → List ℕ → List ℕ →
 with_file [] name bytes = (name, bytes) ∷ []
 with_file (file ∷ files) name bytes = if bytes_eq name file.0 then (name, bytes) ∷ files else file ∷ with_file files name bytes
 
--- no name stands twice
-abbrev pub NamesDiffer : List (List ℕ × List ℕ) → Type 0
-NamesDiffer files = AllPairs (λ a b. bytes_eq a.0 b.0 ≡ false) files
+-- whether no name stands twice
+abbrev pub names_differ : List (List ℕ × List ℕ) → Bool
+names_differ [] = true
+names_differ (file ∷ files) = list_all (λ f. not (bytes_eq file.0 f.0)) files && names_differ files
 
--- the same of the files that a store tells
+-- no name stands twice, where the store tells its files
 abbrev pub ToldNamesDiffer : Option (List (List ℕ × List ℕ)) → Type 0
 ToldNamesDiffer None = Unit {0}
-ToldNamesDiffer (Some files) = NamesDiffer files
+ToldNamesDiffer (Some files) = IsTrue (names_differ files)
 
 -- what was found under the name is the file of that name, where the store tells its files
 abbrev pub Finds : Option (List (List ℕ × List ℕ)) → List ℕ → Option (List ℕ) → Type 0

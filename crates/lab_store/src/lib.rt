@@ -11,7 +11,7 @@ mod stream;
 
 pub use mem_sink::{Keep, MemSink};
 pub use mem_source::MemSource;
-pub use mem_store::{File, Files};
+pub use mem_store::{Fail, Fails, File, Files, MemStore};
 pub use std_streams::{StdSink, StdSource};
 pub use store::{Store, StoreError};
 pub use stream::{Failed, Sink, Source};
