@@ -1,4 +1,4 @@
-ghost use Rattle.std.specs.Prelude.{◌≡◌, ◌+◌, ◌++◌, ◌-◌, ◌^◌, ◌≤◌, IfSome, OnErr, OnOk, Some, is_err, is_ok, is_some, length, min, take, true, vec_capacity, vec_len};
+ghost use Rattle.std.specs.Prelude.{◌≡◌, ◌+◌, ◌++◌, ◌-◌, ◌^◌, ◌≤◌, IfSome, IsOk, [], OnErr, OnOk, Some, is_err, is_ok, is_some, length, min, take, true, vec_capacity, vec_len};
 ghost use Rattle.lab_store.specs.Calls.{kept_now, kept_of, may_fail};
 
 use crate::stream::{Failed, Sink};
@@ -103,6 +103,7 @@ impl Sink for MemSink {
         ensures ok { OnOk result (self.new.bytes.items ≡ self.old.bytes.items ++ bytes.now) }
         ensures part { OnErr result (IfSome (kept_now self.old.failing self.old.calls self.old.faults) (λ k. self.new.bytes.items ≡ self.old.bytes.items ++ take k bytes.now)) }
         ensures fails { is_err result ≡ is_some (kept_now self.old.failing self.old.calls self.old.faults) }
+        ensures none_fail { self.old.failing ≡ [] → IsOk result }
         ensures no_fault { OnOk result (self.new.faults ≡ self.old.faults) }
         ensures fault { OnErr result (self.new.faults ≡ self.old.faults + 1) }
         ensures calls { (self.new.calls ≡ min (self.old.calls + 1) (2 ^ 32 - 1)) × (self.new.failing ≡ self.old.failing) }

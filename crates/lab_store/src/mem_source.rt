@@ -1,4 +1,4 @@
-ghost use Rattle.std.specs.Prelude.{◌≡◌, ◌+◌, ◌-◌, ◌^◌, ◌≤◌, ◌&&◌, IfOk, OnErr, OnOk, Some, drop, is_err, length, min};
+ghost use Rattle.std.specs.Prelude.{◌≡◌, ◌+◌, ◌-◌, ◌^◌, ◌≤◌, ◌&&◌, IfOk, IsOk, [], OnErr, OnOk, Some, drop, is_err, length, min};
 ghost use Rattle.lab_store.specs.Calls.{is_named, may_fail};
 ghost use Rattle.lab_store.specs.Stream.{Takes};
 
@@ -70,6 +70,7 @@ impl Source for MemSource {
         ensures fault { OnErr result (self.new.faults ≡ self.old.faults + 1) }
         ensures nothing_taken { OnErr result (self.new.at ≡ self.old.at) }
         ensures fails { is_err result ≡ (may_fail self.old.calls self.old.faults && is_named self.old.failing self.old.calls) }
+        ensures none_fail { self.old.failing ≡ [] → IsOk result }
         ensures given { IfOk result (λ n. n ≡ min (min (length self.old.bytes - self.old.at) (length room.old)) self.old.piece) }
         ensures calls { self.new.calls ≡ min (self.old.calls + 1) (2 ^ 32 - 1) }
         ensures kept { (self.new.bytes ≡ self.old.bytes) × (self.new.piece ≡ self.old.piece) × (self.new.failing ≡ self.old.failing) }

@@ -1,6 +1,6 @@
-ghost use Rattle.std.specs.Prelude.{◌≡◌, ◌+◌, ◌-◌, ◌^◌, ◌≤◌, ◌<◌, ◌⊎◌, [], IfErr, IfOk, IfSome, IsTrue, OnErr, OnOk, Some, is_err, is_some, length, min, map};
+ghost use Rattle.std.specs.Prelude.{◌≡◌, ◌+◌, ◌-◌, ◌^◌, ◌≤◌, ◌<◌, [], Err, IfErr, IfOk, IfSome, IsErr, IsSome, IsTrue, OnErr, OnOk, Some, if◌then◌else◌, length, min};
 ghost use Rattle.std.specs.Option.{option_map};
-ghost use Rattle.lab_store.specs.Store.{OnFailed, OnLong, file_at, names_differ, with_file};
+ghost use Rattle.lab_store.specs.Store.{IsLonger, MayReplace, OnFailed, OnLong, OnNoMemory, file_at, names_differ, with_file};
 ghost use Rattle.lab_store.specs.Calls.{late_now, late_of};
 ghost use Rattle.lab_store.specs.Files.{pairs, place_of};
 
@@ -193,12 +193,19 @@ impl Store for MemStore {
 
     ghost replace_faults = { λ s. s.replace_faults };
 
-    fn fetch(
-        &mut self,
-        alloc: Global,
-        name: &str,
-        most: u64,
-    ) -> Result<Option<Vec<u8>>, StoreError> {
+    fn fetch(&mut self, alloc: Global, name: &str, most: u64) -> Result<Option<Vec<u8>>, StoreError>
+        ensures files { pairs self.new.files.items.items ≡ pairs self.old.files.items.items }
+        ensures found { IfOk result (λ o. option_map (λ v. v.items) o ≡ file_at (pairs self.old.files.items.items) name.now) }
+        ensures most { IfOk result (λ o. IfSome o (λ v. length v.items ≤ most)) }
+        ensures long { IfErr result (λ e. OnLong e (IsLonger (Some (pairs self.old.files.items.items)) name.now most)) }
+        ensures fault { IfErr result (λ e. OnFailed e (self.new.fetch_faults ≡ self.old.fetch_faults + 1)) }
+        ensures faults { self.old.fetch_faults ≤ self.new.fetch_faults }
+        ensures other { self.new.replace_faults ≡ self.old.replace_faults }
+        ensures fails { IfSome (late_now self.old.failing self.old.calls self.old.fetch_faults) (λ _. result ≡ Err StoreError.Failed) }
+        ensures only { IfErr result (λ e. OnFailed e (IsSome (late_now self.old.failing self.old.calls self.old.fetch_faults))) }
+        ensures none_fail { self.old.failing ≡ [] → IfErr result (λ e. OnFailed e ⊥) }
+        ensures calls { (self.new.calls ≡ min (self.old.calls + 1) (2 ^ 32 - 1)) × (self.new.failing ≡ self.old.failing) }
+    {
         let fails = self.late_now(self.fetch_faults).is_some();
         self.calls = self.calls.saturating_add(1);
         if fails {
@@ -211,7 +218,20 @@ impl Store for MemStore {
         }
     }
 
-    fn replace(&mut self, alloc: Global, name: &str, bytes: &[u8]) -> Result<(), StoreError> {
+    fn replace(&mut self, alloc: Global, name: &str, bytes: &[u8]) -> Result<(), StoreError>
+        ensures replaced { OnOk result (pairs self.new.files.items.items ≡ with_file (pairs self.old.files.items.items) name.now bytes.now) }
+        ensures part { IfErr result (λ e. OnFailed e (MayReplace (Some (pairs self.old.files.items.items)) (Some (pairs self.new.files.items.items)) name.now bytes.now)) }
+        ensures late { IfErr result (λ e. OnFailed e (IfSome (late_now self.old.failing self.old.calls self.old.replace_faults) (λ late. pairs self.new.files.items.items ≡ (if late then with_file (pairs self.old.files.items.items) name.now bytes.now else pairs self.old.files.items.items)))) }
+        ensures fault { IfErr result (λ e. OnFailed e (self.new.replace_faults ≡ self.old.replace_faults + 1)) }
+        ensures never_long { IfErr result (λ e. OnLong e ⊥) }
+        ensures no_memory { IfErr result (λ e. OnNoMemory e (pairs self.new.files.items.items ≡ pairs self.old.files.items.items)) }
+        ensures faults { self.old.replace_faults ≤ self.new.replace_faults }
+        ensures other { self.new.fetch_faults ≡ self.old.fetch_faults }
+        ensures fails { IfSome (late_now self.old.failing self.old.calls self.old.replace_faults) (λ _. IsErr result) }
+        ensures only { IfErr result (λ e. OnFailed e (IsSome (late_now self.old.failing self.old.calls self.old.replace_faults))) }
+        ensures none_fail { self.old.failing ≡ [] → IfErr result (λ e. OnFailed e ⊥) }
+        ensures calls { (self.new.calls ≡ min (self.old.calls + 1) (2 ^ 32 - 1)) × (self.new.failing ≡ self.old.failing) }
+    {
         let late = self.late_now(self.replace_faults);
         self.calls = self.calls.saturating_add(1);
         if late != Some(false) && self.files.put(alloc, name, bytes).is_err() {
