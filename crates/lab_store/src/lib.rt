@@ -15,3 +15,6 @@ pub use mem_store::{Fail, Fails, File, Files, MemStore};
 pub use std_streams::{StdSink, StdSource};
 pub use store::{Store, StoreError};
 pub use stream::{Failed, Sink, Source};
+
+#[cfg(test)]
+mod tests;
