@@ -23,6 +23,7 @@ use Rattle.crdt_laws.proofs.Place.{place_last}
 use Rattle.replica_model.specs.Replica.{Replica, edited, members, next_stamp, row, version}
 use Rattle.replica_core.specs.Kept.{AreKept, IsKept, IsKnown, IsReplicaUpTo, IsUpTo}
 use Rattle.replica_core.specs.Rows.{IsFrom}
+use Rattle.replica_core.proofs.Bounds.{replica_up_to}
 use Rattle.replica_core.proofs.Joins.{at_most-join_left, at_most-join_right, join_above}
 
 -- a clock with one operation more of a member
@@ -207,16 +208,14 @@ module _ {State Op : Type 0} (m : Meaning State Op) (law : IsLawful m) where
     up_to_latest : (k : ℕ) → IsReplicaUpTo k r → IsUpTo k latest
     up_to_latest k u = subst (IsUpTo k) h.own (All-get_or (IsUpTo k) r.known r.me (zero_clock 1) h.member u.rows)
 
-    more : (k : ℕ) (c : Clock) → IsUpTo k c → IsUpTo (k + 1) c
-    more k c u = record { each = λ j. omega (arith, u.each j) }
-
     pub up_to_pushed : (k : ℕ) → IsReplicaUpTo k r → IsReplicaUpTo (k + 1) pushed
     up_to_pushed k u =
+        let later : IsReplicaUpTo (k + 1) r = replica_up_to k (k + 1) r (omega arith) u in
         let last : IsUpTo (k + 1) (next_stamp r).clock = up_to-next k (members r) latest r.me known_latest h.member (up_to_latest k u) in
         record {
-          rows = All-set (IsUpTo (k + 1)) r.known r.me (next_stamp r).clock last (λ i d l. more k (get_or r.known i d) (u.rows i d l));
+          rows = All-set (IsUpTo (k + 1)) r.known r.me (next_stamp r).clock last later.rows;
           delivered =
-              All-append (λ e. IsUpTo (k + 1) e.stamp.clock) r.delivered (newest ∷ []) (λ i d l. more k (get_or r.delivered i d).stamp.clock (u.delivered i d l))
+              All-append (λ e. IsUpTo (k + 1) e.stamp.clock) r.delivered (newest ∷ []) later.delivered
               (All-from_recursion (λ e. IsUpTo (k + 1) e.stamp.clock) (newest ∷ []) (last, tt));
-          waiting = λ i d l. more k (get_or r.waiting i d).stamp.clock (u.waiting i d l);
+          waiting = later.waiting;
         }

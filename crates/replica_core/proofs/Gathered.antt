@@ -1,11 +1,11 @@
 -- Sets of operations that come from others.
 use Rattle.std.proofs.Common.{List, ◌++◌, ◌≡◌, ℕ, ◌≤◌, ◌⊎◌, Bool, Contains, Err, IfOk, Ok, Result, get_or, ap, ◌∙◌, sym, inl, inr, not}
 use Rattle.std.specs.List.{All, filter}
-use Rattle.std.proofs.lemmas.List.Elements.{All-contains, All-contains_itself, All-filter, Contains-append_cases, Contains-append_left, Contains-append_right, filter_agree}
+use Rattle.std.proofs.lemmas.List.Elements.{All-append, All-contains, All-contains_itself, All-filter, Contains-append_cases, Contains-append_left, Contains-append_right, filter_agree}
 use Rattle.vector_clock.specs.declared.clock.Clock.{Clock}
 use Rattle.vector_clock.specs.Stamp.{IsStamp}
 use Rattle.crdt_laws.specs.declared.small.Entry.{Entry}
-use Rattle.crdt_laws.specs.Sets.{IsHonest, has_all_of}
+use Rattle.crdt_laws.specs.Sets.{IsHonest, has_all_of, together}
 use Rattle.replica_model.specs.Replica.{ready, unready}
 use Rattle.replica_core.specs.Frontier.{frontier, is_at_most}
 use Rattle.replica_core.specs.Rows.{AreByKey, IsFrom}
@@ -60,3 +60,19 @@ pub unready_is : {Op : Type 0} (n : ℕ) (xs : List (Entry Op)) (front : Clock) 
 unready_is {Op} n xs front most h honest is =
     ap (λ (k : Clock). filter (λ (e : Entry Op). not (is_at_most e.stamp.clock k)) xs) is
     ∙ filter_agree (λ (e : Entry Op). not (is_at_most e.stamp.clock (frontier n xs))) (λ e. not (has_all_of xs e.stamp.clock)) (λ e. ap not (sym (frontier_exact n xs most h.from honest h.rising e.stamp.clock))) xs
+
+-- a list that was joined with one more
+
+abbrev pub IsOfBoth : {X : Type 0} → List X → List X → List X → Type 0
+IsOfBoth {X} r xs ys = (e : X) → Contains r e → Contains xs e ⊎ Contains ys e
+
+pub less_twice : {X : Type 0} (d w a own all : List X) → IsOfBoth own d w → IsOfBoth all own a → IsLess all ((d ++ w) ++ a)
+less_twice d w a own all f h e k = less_left own (d ++ w) a (less_joined own d w f) e (less_joined all own a h e k)
+
+pub from_once : {Op : Type 0} (n : ℕ) (d w own : List (Entry Op)) → IsOfBoth own d w → All (IsFrom n) d → All (IsFrom n) w → All (IsFrom n) own
+from_once n d w own f h k = all_less (IsFrom n) own (d ++ w) (less_joined own d w f) (All-append (IsFrom n) d w h k)
+
+pub pooled_is : {Op : Type 0} (d w a own all : List (Entry Op)) → IsOfBoth own d w → (IsHonest (d ++ w) → own ≡ together d w) → (IsHonest (own ++ a) → all ≡ together own a) → IsHonest ((d ++ w) ++ a) → all ≡ together (together d w) a
+pooled_is d w a own all f first second honest =
+    second (honest_less (own ++ a) ((d ++ w) ++ a) (less_left own (d ++ w) a (less_joined own d w f)) honest)
+    ∙ ap (λ t. together t a) (first (honest_less (d ++ w) ((d ++ w) ++ a) (λ e k. Contains-append_left (d ++ w) a e k) honest))

@@ -1,3 +1,4 @@
+pub mod Bounds
 pub mod Edit
 pub mod Export
 pub mod Frontier

@@ -1,5 +1,6 @@
 ghost use Rattle.std.specs.Prelude.{◌≡◌, ◌++◌, ◌≤◌, ℕ, IfOk, not};
 ghost use Rattle.std.specs.List.{All, Contains, filter};
+ghost use Rattle.vector_clock.specs.Clock.{IsClock};
 ghost use Rattle.crdt_laws.specs.declared.small.Entry.{Entry};
 ghost use Rattle.crdt_laws.specs.Sets.{IsHonest, together};
 ghost use Rattle.replica_model.specs.Replica.{ready, unready};
@@ -13,7 +14,7 @@ use vector_clock::Clock;
 
 /// For each member, how many of its operations there are without a gap. All are given by key, so those of an honest member
 /// stand by their numbers.
-pub(crate) fn frontier<Op>(n: u8, ops: &[Entry<Op>]) -> Clock
+fn frontier<Op>(n: u8, ops: &[Entry<Op>]) -> Clock
     requires some { 1 ≤ n }
     requires most { n ≤ 16 }
     requires ops { All (IsFrom n) ops.now }
@@ -31,23 +32,22 @@ pub(crate) fn frontier<Op>(n: u8, ops: &[Entry<Op>]) -> Clock
 }
 
 /// Whether the operation knows only of operations before the frontier.
-fn is_ready<Op>(e: &Entry<Op>, n: u8, front: &Clock) -> bool
-    requires entry { IsFrom n e.now }
-    requires front { IsKnown n front.now }
+fn is_ready<Op>(e: &Entry<Op>, front: &Clock) -> bool
+    requires entry { IsFrom front.now.n e.now }
+    requires front { IsClock front.now }
     ensures { result ≡ is_at_most e.now.stamp.clock front.now }
 {
     e.stamp.clock.le(front)
 }
 
 /// The operations that know only of operations before the frontier, and the others.
-pub(crate) fn split<Op: Drop>(
+fn split<Op: Drop>(
     alloc: Global,
     ops: Ops<Op>,
-    n: u8,
     front: &Clock,
 ) -> Result<(Ops<Op>, Ops<Op>), NoMemory>
-    requires ops { All (IsFrom n) ops }
-    requires front { IsKnown n front.now }
+    requires ops { All (IsFrom front.now.n) ops }
+    requires front { IsClock front.now }
     ensures ready { IfOk result (λ x. x.0 ≡ filter (λ e. is_at_most e.stamp.clock front.now) ops) }
     ensures unready { IfOk result (λ x. x.1 ≡ filter (λ e. not (is_at_most e.stamp.clock front.now)) ops) }
 {
@@ -55,7 +55,7 @@ pub(crate) fn split<Op: Drop>(
     let mut unready = Ops::new(alloc);
     let Ops { items } = ops;
     for e in items {
-        if is_ready(&e, n, front) {
+        if is_ready(&e, front) {
             ready.push(e.stamp, e.op)?;
         } else {
             unready.push(e.stamp, e.op)?;
@@ -64,26 +64,8 @@ pub(crate) fn split<Op: Drop>(
     Ok((ready, unready))
 }
 
-/// All operations that there are once others have arrived.
-fn pool<Op: Drop>(
-    alloc: Global,
-    n: u8,
-    delivered: Ops<Op>,
-    waiting: Ops<Op>,
-    arrived: Ops<Op>,
-) -> Result<Ops<Op>, NoMemory>
-    requires delivered { AreByKey n delivered }
-    requires waiting { AreByKey n waiting }
-    requires arrived { AreByKey n arrived }
-    ensures pooled { IfOk result (λ all. IsHonest ((delivered ++ waiting) ++ arrived) → all ≡ together (together delivered waiting) arrived) }
-    ensures by_key { IfOk result (AreByKey n) }
-    ensures from { IfOk result (λ all. (e : Entry Op) → Contains all e → Contains ((delivered ++ waiting) ++ arrived) e) }
-{
-    let own = together(alloc, delivered, waiting)?;
-    together(alloc, own, arrived)
-}
-
-/// All operations once others have arrived, as those that know only of operations among them, and the others.
+/// All operations once others have arrived: those that know only of operations among them, and the others. It takes one
+/// pass for each two lists that it joins, one for the frontier, and one that sets what is ready apart.
 pub(crate) fn sift<Op: Drop>(
     alloc: Global,
     n: u8,
@@ -101,7 +83,8 @@ pub(crate) fn sift<Op: Drop>(
     ensures ready_from { IfOk result (λ x. (e : Entry Op) → Contains x.0 e → Contains ((delivered ++ waiting) ++ arrived) e) }
     ensures unready_from { IfOk result (λ x. (e : Entry Op) → Contains x.1 e → Contains ((delivered ++ waiting) ++ arrived) e) }
 {
-    let all = pool(alloc, n, delivered, waiting, arrived)?;
+    let own = together(alloc, delivered, waiting)?;
+    let all = together(alloc, own, arrived)?;
     let front = frontier(n, all.as_slice());
-    split(alloc, all, n, &front)
+    split(alloc, all, &front)
 }
