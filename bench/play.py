@@ -17,7 +17,7 @@ import time
 TOP = pathlib.Path(__file__).resolve().parent.parent
 PROGRAM = TOP / "crates/replica_cli/out/replica_cli"
 MOST_BYTES = 32_768
-RUNS = 5
+RUNS = 25
 
 
 def edits(name, count):
