@@ -14,3 +14,6 @@ pub use lawful::{
 };
 pub use orders::{actions_distribute, any_order, higher_first};
 pub use side_swap::{Sides, Swap, sides};
+
+#[cfg(test)]
+mod tests;
