@@ -6,7 +6,7 @@ use Rattle.crdt_laws.specs.Tower.{IsWithin, Meaning}
 use Rattle.crdt_laws.specs.Actor.{Action, IsLawfulAction}
 use Rattle.semidirect_product.specs.declared.stack.StackOp.{StackOp}
 use Rattle.semidirect_product.specs.declared.stack.StackOp.TheVariants.{Low, High}
-use Rattle.semidirect_product.specs.Stack.{stack_act, stack_apply, stack_level, stack_meaning, stack_valid, stack_well_formed}
+use Rattle.semidirect_product.specs.Stack.{stack_meaning}
 use Rattle.number_crdts.specs.Number.{add_meaning, mul_action}
 
 -- numbers with additions and multiplications

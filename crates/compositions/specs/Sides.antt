@@ -1,8 +1,8 @@
 -- Two things of one kind side by side that change places.
-use Rattle.std.specs.Prelude.{◌≡◌, ◌⊎◌, false}
+use Rattle.std.specs.Prelude.{◌≡◌, false}
 use Rattle.std.proofs.Common.{refl, inl, inr}
 use Rattle.vector_clock.specs.declared.stamp.Stamp.{Stamp}
-use Rattle.crdt_laws.specs.Tower.{Meaning, IsLawful, IsWithin}
+use Rattle.crdt_laws.specs.Tower.{Meaning, IsWithin}
 use Rattle.crdt_laws.specs.Actor.{Action, IsLawfulAction}
 use Rattle.direct_product.specs.declared.pair.Both.{Both}
 use Rattle.direct_product.specs.declared.pair.PairOp.{PairOp}
