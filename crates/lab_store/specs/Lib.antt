@@ -1,1 +1,4 @@
+pub mod Calls
+pub mod Store
 pub mod Stream
+pub mod Files

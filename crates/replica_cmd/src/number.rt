@@ -53,8 +53,7 @@ impl Tower for Number {
 
     fn valid(&self, stamp: &Stamp, op: &NumberOp) -> bool {
         match *op {
-            NumberOp::Add(_amount) => is_within(stamp),
-            NumberOp::Mul(_factor) => is_within(stamp),
+            NumberOp::Add(_word) | NumberOp::Mul(_word) => is_within(stamp),
         }
     }
 

@@ -39,6 +39,7 @@ pub(crate) fn script_of<S: Source>(alloc: Global, source: &mut S) -> Result<Vec<
 /// Makes room for the text, and puts it in one piece.
 pub(crate) fn put_text<W: Sink>(alloc: Global, sink: &mut W, text: &str) -> Result<(), Stop>
     ensures put { OnOk result (Appends (W.told sink.old) (W.told sink.new) text.now) }
+    ensures calm { OnOk result (W.faults sink.new ≡ W.faults sink.old) }
     ensures part { IsErrOf result Stop.Sink → AppendsPart (W.told sink.old) (W.told sink.new) text.now }
     ensures fault { IsErrOf result Stop.Sink → Rose (W.faults sink.old) (W.faults sink.new) }
     ensures nothing { IsErrOf result Stop.NoMemory → W.told sink.new ≡ W.told sink.old }

@@ -48,10 +48,7 @@ fn show_of(alloc: Global, verb: &[u8], file: &[u8]) -> Result<Option<Command>, N
     if verb != b"show".as_slice() {
         return Ok(None);
     }
-    match name_of(alloc, file)? {
-        Some(file) => Ok(Some(Command::Show { file })),
-        None => Ok(None),
-    }
+    Ok(name_of(alloc, file)?.map(|file| Command::Show { file }))
 }
 
 /// The command `export` or `merge`, where the words are one.
@@ -91,10 +88,7 @@ fn new_of(
     let Some(member) = member_of(member) else {
         return Ok(None);
     };
-    match name_of(alloc, file)? {
-        Some(file) => Ok(Some(Command::New { file, member })),
-        None => Ok(None),
-    }
+    Ok(name_of(alloc, file)?.map(|file| Command::New { file, member }))
 }
 
 /// The command `edit`, where the words are one.
@@ -114,10 +108,7 @@ fn edit_of(
     let (Some(verb), Some(amount)) = (verb_of(action), residue_of(number)) else {
         return Ok(None);
     };
-    match name_of(alloc, file)? {
-        Some(file) => Ok(Some(Command::Edit { file, verb, amount })),
-        None => Ok(None),
-    }
+    Ok(name_of(alloc, file)?.map(|file| Command::Edit { file, verb, amount }))
 }
 
 /// The verb of an edit that the word is, where it is one.
@@ -139,7 +130,7 @@ fn name_of(alloc: Global, word: &[u8]) -> Result<Option<FileName>, NoMemory>
         return Ok(None);
     }
     let Ok(text) = str::from_utf8(word) else {
-        unreachable!();
+        unreachable!("the bytes of a name are ASCII");
     };
     Ok(Some(FileName::of(alloc, text)?))
 }

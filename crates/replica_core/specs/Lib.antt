@@ -1,1 +1,3 @@
+pub mod Frontier
 pub mod Kept
+pub mod Rows

@@ -23,6 +23,9 @@ fn multiplies_what_is_added_meanwhile(rt: HostRuntime) -> Result<(), Fail> {
     let acted = tower.act(alloc, &triple, &four_less)?;
     let state = tower.apply(alloc, state, &theirs, &acted)?;
     assert_eq!(rt; acted, NumberOp::Add(18_446_744_073_709_551_604));
+    let copy = tower.copy_op(alloc, &triple)?;
+    assert!(rt; tower.same_op(&copy, &triple));
+    assert_eq!(rt; tower.copy_state(alloc, &state)?, state);
     let shown = tower.show(alloc, &state)?;
     let text = serde_json::to_string(alloc, &shown)?;
     assert_eq!(rt; text.as_str(), "-12");

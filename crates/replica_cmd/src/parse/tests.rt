@@ -22,6 +22,7 @@ fn reads_commands(rt: HostRuntime) -> Result<(), Fail> {
         ("show Z", "show Z"),
         ("export a b", "export a, b"),
         ("merge a b", "merge a, b"),
+        ("play", "play"),
         (
             "show aaaaaaaaaaaaaaaabbbbbbbbbbbbbbbbccccccccccccccccdddddddddddddddd",
             "show aaaaaaaaaaaaaaaabbbbbbbbbbbbbbbbccccccccccccccccdddddddddddddddd",
@@ -44,7 +45,8 @@ fn refuses_other_words(rt: HostRuntime) -> Result<(), Fail> {
         "show a b",
         "Show a",
         "stat a",
-        "play",
+        "Play",
+        "play a",
         "export a",
         "merge a b c",
         "merge .a b",
@@ -130,6 +132,7 @@ fn told(alloc: Global, line: &[u8]) -> Result<String, Fail> {
         Some(Command::Show { file }) => format!(in alloc; "show {file}")?,
         Some(Command::Export { file, batch }) => format!(in alloc; "export {file}, {batch}")?,
         Some(Command::Merge { file, batch }) => format!(in alloc; "merge {file}, {batch}")?,
+        Some(Command::Play) => String::from_str(alloc, "play")?,
     };
     Ok(told)
 }

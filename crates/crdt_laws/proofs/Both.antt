@@ -1,0 +1,198 @@
+-- The operations of two sets as one list.
+use Rattle.std.proofs.Common.{◌≡◌, true, false, Bool, not, List, [], ◌∷◌, ◌++◌, cond, refl, sym, ◌∙◌, arith, ◌⊎◌, ◌↔◌, inl, inr, subst, All, Contains}
+use Rattle.std.specs.List.{AllByRecursion, filter}
+use Rattle.std.proofs.lemmas.Bool.{false_from_ne_true}
+use Rattle.std.proofs.lemmas.Bool.Decides.{nat_tests}
+use Rattle.std.proofs.lemmas.List.Elements.{All-contains, All-from_recursion, Contains-append_left, Contains-append_right, Contains-append_cases}
+use Rattle.vector_clock.specs.declared.stamp.Stamp.{Stamp}
+use Rattle.vector_clock.specs.Stamp.{id_of, is_below, same_id}
+use Rattle.vector_clock.proofs.Keys.{key_irreflexive}
+use Rattle.crdt_laws.specs.declared.small.Entry.{Entry}
+use Rattle.crdt_laws.specs.Sets.{AreApart, IsHonest, IsRising, canonical, has_name, together}
+use Rattle.crdt_laws.proofs.Filters.{all-append, all-filter, all_weaker}
+use Rattle.crdt_laws.proofs.Members.{Contains-canonical, Contains-front, Contains-more, at_member, each, rising_same}
+use Rattle.crdt_laws.proofs.Place.{rising-canonical}
+
+-- a part of an honest set is honest
+pub honest_part : {Op : Type 0} (xs ys : List (Entry Op)) → ((e : Entry Op) → Contains ys e → Contains xs e) → IsHonest xs → IsHonest ys
+honest_part xs ys sub h = record {
+  same = λ a b i j. h.same a b (sub a i) (sub b j);
+  known = λ a b i j. h.known a b (sub a i) (sub b j);
+}
+
+honest_swap : {Op : Type 0} (xs ys : List (Entry Op)) → IsHonest (xs ++ ys) → IsHonest (ys ++ xs)
+honest_swap xs ys = honest_part (xs ++ ys) (ys ++ xs) (λ e c. elim (Contains-append_cases ys xs e c) [
+  | inl i ↦ Contains-append_right xs ys e i
+  | inr i ↦ Contains-append_left xs ys e i
+])
+
+-- names
+
+has_name-front : {Op : Type 0} (a : Entry Op) (xs : List (Entry Op)) (p : Stamp) → same_id a.stamp p ≡ true → has_name (a ∷ xs) (id_of p) ≡ true
+unfolding same_id
+has_name-front a xs p h = grind (arith, nat_tests)
+
+has_name-behind : {Op : Type 0} (a : Entry Op) (xs : List (Entry Op)) (p : Stamp) → has_name xs (id_of p) ≡ true → has_name (a ∷ xs) (id_of p) ≡ true
+has_name-behind a xs p h = grind (arith, nat_tests)
+
+has_name-cases : {Op : Type 0} (a : Entry Op) (xs : List (Entry Op)) (p : Stamp) → has_name (a ∷ xs) (id_of p) ≡ true → (same_id a.stamp p ≡ true) ⊎ (has_name xs (id_of p) ≡ true)
+unfolding same_id
+has_name-cases a xs p h = grind (arith, nat_tests)
+
+has_name-from : {Op : Type 0} (xs : List (Entry Op)) (a : Entry Op) (p : Stamp) → Contains xs a → same_id a.stamp p ≡ true → has_name xs (id_of p) ≡ true
+has_name-from {Op} xs a p c h = at_member (λ (e : Entry Op). same_id e.stamp p ≡ true → has_name xs (id_of p) ≡ true) xs a (go xs) c h
+  where
+    go : (l : List (Entry Op)) → AllByRecursion (λ e. same_id e.stamp p ≡ true → has_name l (id_of p) ≡ true) l
+    go [] = tt
+    go (b ∷ l) = (has_name-front b l p, all_weaker _ (λ e. same_id e.stamp p ≡ true → has_name (b ∷ l) (id_of p) ≡ true) (λ e k h. has_name-behind b l p (k h)) l (go l))
+
+-- who has the name
+has_name-who : {Op : Type 0} (xs : List (Entry Op)) (p : Stamp) → has_name xs (id_of p) ≡ true → (a : Entry Op) × (Contains xs a × (same_id a.stamp p ≡ true))
+has_name-who [] p h = (let f : false ≡ true = h in cc)
+has_name-who (a ∷ xs) p h = elim (has_name-cases a xs p h) [
+  | inl i ↦ (a, (Contains-front a xs, i))
+  | inr i ↦ (let w = has_name-who xs p i in (w.0, (Contains-more a xs w.0 w.1.0, w.1.1)))
+]
+
+-- no entry of the second list has a name of the first
+others_apart : {Op : Type 0} (xs ys : List (Entry Op)) (a : Entry Op) → Contains xs a → AllByRecursion (λ b. same_id a.stamp b.stamp ≡ false) (filter (λ e. not (has_name xs (id_of e.stamp))) ys)
+others_apart xs [] a c = tt
+others_apart xs (y ∷ ys) a c =
+    (elim (has_name xs (id_of y.stamp)) as (λ t. has_name xs (id_of y.stamp) ≡ t → AllByRecursion (λ b. same_id a.stamp b.stamp ≡ false) (cond (not t) (y ∷ filter (λ e. not (has_name xs (id_of e.stamp))) ys) (filter (λ e. not (has_name xs (id_of e.stamp))) ys))) [
+      | true ↦ λ e. others_apart xs ys a c
+      | false ↦ λ e. (false_from_ne_true _ (λ q. let f : has_name xs (id_of y.stamp) ≡ true = has_name-from xs a y.stamp c q in cc), others_apart xs ys a c)
+    ]) refl
+
+apart-append : {Op : Type 0} (xs ys : List (Entry Op)) → AreApart xs → AreApart ys → ((a : Entry Op) → Contains xs a → AllByRecursion (λ b. same_id a.stamp b.stamp ≡ false) ys) → AreApart (xs ++ ys)
+apart-append [] ys h k o = k
+apart-append (a ∷ xs) ys h k o =
+    (all-append (λ b. same_id a.stamp b.stamp ≡ false) xs ys h.0 (o a (Contains-front a xs)), apart-append xs ys h.1 k (λ e c. o e (Contains-more a xs e c)))
+
+apart-filter : {Op : Type 0} (p : Entry Op → Bool) (xs : List (Entry Op)) → AreApart xs → AreApart (filter p xs)
+apart-filter p [] h = tt
+apart-filter p (a ∷ xs) h =
+    let rest : AreApart (filter p xs) = apart-filter p xs h.1 in
+    elim (p a) as (λ b. AreApart (cond b (a ∷ filter p xs) (filter p xs))) [ true ↦ (all-filter (λ b. same_id a.stamp b.stamp ≡ false) p xs h.0, rest) | false ↦ rest ]
+
+both_apart : {Op : Type 0} (xs ys : List (Entry Op)) → AreApart xs → AreApart ys → AreApart (xs ++ filter (λ e. not (has_name xs (id_of e.stamp))) ys)
+both_apart xs ys h k = apart-append xs _ h (apart-filter _ ys k) (others_apart xs ys)
+
+Contains-filtered : {Op : Type 0} (p : Entry Op → Bool) (l : List (Entry Op)) (e : Entry Op) → Contains (filter p l) e → Contains l e
+Contains-filtered {Op} p l e c = at_member (Contains l) (filter p l) e (all-filter (Contains l) p l (each l)) c
+
+Contains-filter : {Op : Type 0} (p : Entry Op → Bool) (l : List (Entry Op)) (e : Entry Op) → Contains l e → p e ≡ true → Contains (filter p l) e
+Contains-filter {Op} p l e c h = at_member (λ z. p z ≡ true → Contains (filter p l) z) l e (go l) c h
+  where
+    go : (m : List (Entry Op)) → AllByRecursion (λ z. p z ≡ true → Contains (filter p m) z) m
+    go [] = tt
+    go (a ∷ m) =
+        (elim (p a) as (λ b. p a ≡ b → AllByRecursion (λ z. p z ≡ true → Contains (cond b (a ∷ filter p m) (filter p m)) z) (a ∷ m)) [
+          | true ↦ λ q. (λ _. Contains-front a (filter p m), all_weaker _ (λ z. p z ≡ true → Contains (a ∷ filter p m) z) (λ z k i. Contains-more a (filter p m) z (k i)) m (go m))
+          | false ↦ λ q. (λ r. (let f : false ≡ true = sym q ∙ r in cc), go m)
+        ]) refl
+
+-- in an honest set, keys that rise are of different names
+pub rising_apart : {Op : Type 0} (xs : List (Entry Op)) → IsHonest xs → IsRising xs → AreApart xs
+rising_apart [] h r = tt
+rising_apart {Op} (a ∷ xs) h r = (
+  all_weaker (Contains xs) (λ (b : Entry Op). same_id a.stamp b.stamp ≡ false) (λ b c.
+      false_from_ne_true _ (λ q.
+      let e : a ≡ b = h.same a b (Contains-front a xs) (Contains-more a xs b c) q in
+      let f : is_below a.stamp b.stamp ≡ true = at_member (λ (z : Entry Op). is_below a.stamp z.stamp ≡ true) xs b r.0 c in
+      key_irreflexive b.stamp (subst (λ (z : Entry Op). is_below z.stamp b.stamp ≡ true) e f))) xs (each xs),
+  rising_apart xs (honest_part (a ∷ xs) xs (λ e c. Contains-more a xs e c) h) r.1,
+)
+
+-- the list of two sets
+
+pub together_from : {Op : Type 0} (xs ys : List (Entry Op)) (e : Entry Op) → Contains (together xs ys) e → Contains xs e ⊎ Contains ys e
+unfolding together
+together_from xs ys e c =
+    elim (Contains-append_cases xs (filter (λ e. not (has_name xs (id_of e.stamp))) ys) e ((Contains-canonical _ e).1 c)) [
+      | inl i ↦ inl i
+      | inr i ↦ inr (Contains-filtered _ ys e i)
+    ]
+
+pub together_first : {Op : Type 0} (xs ys : List (Entry Op)) (e : Entry Op) → Contains xs e → Contains (together xs ys) e
+unfolding together
+together_first xs ys e c = (Contains-canonical _ e).0 (Contains-append_left xs _ e c)
+
+pub together_second : {Op : Type 0} (xs ys : List (Entry Op)) (e : Entry Op) → IsHonest (xs ++ ys) → Contains ys e → Contains (together xs ys) e
+unfolding together
+together_second xs ys e h c = (elim (has_name xs (id_of e.stamp)) as (λ t. has_name xs (id_of e.stamp) ≡ t → Contains (together xs ys) e) [
+  | true ↦ λ q. (let w = has_name-who xs e.stamp q in
+      let same : w.0 ≡ e = h.same w.0 e (Contains-append_left xs ys w.0 w.1.0) (Contains-append_right xs ys e c) w.1.1 in
+      together_first xs ys e (subst (λ z. Contains xs z) same w.1.0))
+  | false ↦ λ q. (Contains-canonical _ e).0 (Contains-append_right xs _ e (Contains-filter _ ys e c (let f : not (has_name xs (id_of e.stamp)) ≡ true = cc in f)))
+]) refl
+
+pub together_elements : {Op : Type 0} (xs ys : List (Entry Op)) → IsHonest (xs ++ ys) → (e : Entry Op) → Contains (together xs ys) e ↔ (Contains xs e ⊎ Contains ys e)
+together_elements xs ys h e = (
+  together_from xs ys e,
+  λ c. elim c [ inl i ↦ together_first xs ys e i | inr i ↦ together_second xs ys e h i ],
+)
+
+pub together_rises : {Op : Type 0} (xs ys : List (Entry Op)) → AreApart xs → AreApart ys → IsRising (together xs ys)
+unfolding together
+together_rises xs ys h k = rising-canonical _ (both_apart xs ys h k)
+
+turned : {A B : Type 0} → A ⊎ B → B ⊎ A
+turned (inl a) = inr a
+turned (inr b) = inl b
+
+pub together_commutes : {Op : Type 0} (xs ys : List (Entry Op)) → IsHonest (xs ++ ys) → AreApart xs → AreApart ys → together xs ys ≡ together ys xs
+together_commutes xs ys h a b =
+    rising_same (together xs ys) (together ys xs) (together_rises xs ys a b) (together_rises ys xs b a) (λ e. (
+      λ c. (together_elements ys xs (honest_swap xs ys h) e).1 (turned (together_from xs ys e c)),
+      λ c. (together_elements xs ys h e).1 (turned (together_from ys xs e c)),
+    ))
+
+-- a part of what is in the other changes nothing
+pub together_within : {Op : Type 0} (xs ys : List (Entry Op)) → AreApart xs → AreApart ys → ((e : Entry Op) → Contains ys e → Contains xs e) → together xs ys ≡ canonical xs
+together_within xs ys a b sub =
+    rising_same (together xs ys) (canonical xs) (together_rises xs ys a b) (rising-canonical xs a) (λ e. (
+      λ c. (Contains-canonical xs e).0 (elim (together_from xs ys e c) [ inl i ↦ i | inr i ↦ sub e i ]),
+      λ c. together_first xs ys e ((Contains-canonical xs e).1 c),
+    ))
+
+-- a list of parts of an honest set is an honest set's
+honest_parts : {Op : Type 0} (all xs ys : List (Entry Op)) → IsHonest all → ((e : Entry Op) → Contains xs e → Contains all e) → ((e : Entry Op) → Contains ys e → Contains all e) → IsHonest (xs ++ ys)
+honest_parts all xs ys h left right = honest_part all (xs ++ ys) (λ e c. elim (Contains-append_cases xs ys e c) [ inl i ↦ left e i | inr i ↦ right e i ]) h
+
+grouped : {A B C : Type 0} → (A ⊎ B) ⊎ C → A ⊎ (B ⊎ C)
+grouped (inl (inl a)) = inl a
+grouped (inl (inr b)) = inr (inl b)
+grouped (inr c) = inr (inr c)
+
+regrouped : {A B C : Type 0} → A ⊎ (B ⊎ C) → (A ⊎ B) ⊎ C
+regrouped (inl a) = inl (inl a)
+regrouped (inr (inl b)) = inl (inr b)
+regrouped (inr (inr c)) = inr c
+
+either : {A B C D : Type 0} → (A → C) → (B → D) → A ⊎ B → C ⊎ D
+either f g (inl a) = inl (f a)
+either f g (inr b) = inr (g b)
+
+pub together_associates : {Op : Type 0} (xs ys zs : List (Entry Op)) → IsHonest ((xs ++ ys) ++ zs) → AreApart xs → AreApart ys → AreApart zs → together (together xs ys) zs ≡ together xs (together ys zs)
+together_associates {Op} xs ys zs h a b c =
+    let all : List (Entry Op) = (xs ++ ys) ++ zs in
+    let x : (e : Entry Op) → Contains xs e → Contains all e = λ e i. Contains-append_left (xs ++ ys) zs e (Contains-append_left xs ys e i) in
+    let y : (e : Entry Op) → Contains ys e → Contains all e = λ e i. Contains-append_left (xs ++ ys) zs e (Contains-append_right xs ys e i) in
+    let z : (e : Entry Op) → Contains zs e → Contains all e = λ e i. Contains-append_right (xs ++ ys) zs e i in
+    let xy : (e : Entry Op) → Contains (together xs ys) e → Contains all e = λ e i. elim (together_from xs ys e i) [ inl j ↦ x e j | inr j ↦ y e j ] in
+    let yz : (e : Entry Op) → Contains (together ys zs) e → Contains all e = λ e i. elim (together_from ys zs e i) [ inl j ↦ y e j | inr j ↦ z e j ] in
+    let p : IsHonest (together xs ys ++ zs) = honest_parts all (together xs ys) zs h xy z in
+    let q : IsHonest (xs ++ together ys zs) = honest_parts all xs (together ys zs) h x yz in
+    let first : IsHonest (xs ++ ys) = honest_parts all xs ys h x y in
+    let last : IsHonest (ys ++ zs) = honest_parts all ys zs h y z in
+    let d : AreApart (together xs ys) = rising_apart (together xs ys) (honest_part all (together xs ys) xy h) (together_rises xs ys a b) in
+    let e : AreApart (together ys zs) = rising_apart (together ys zs) (honest_part all (together ys zs) yz h) (together_rises ys zs b c) in
+    rising_same (together (together xs ys) zs) (together xs (together ys zs)) (together_rises (together xs ys) zs d c) (together_rises xs (together ys zs) a e) (λ f. (
+      λ i. (together_elements xs (together ys zs) q f).1 (either (λ j. j) (together_elements ys zs last f).1 (grouped (either (together_from xs ys f) (λ j. j) (together_from (together xs ys) zs f i)))),
+      λ i. (together_elements (together xs ys) zs p f).1 (either (together_elements xs ys first f).1 (λ j. j) (regrouped (either (λ j. j) (together_from ys zs f) (together_from xs (together ys zs) f i)))),
+    ))
+
+-- what all have of both lists, all have of a list that has no others
+pub all_of_both : {X : Type 0} (P : X → Type 0) (xs ys r : List X) → ((e : X) → Contains r e → Contains xs e ⊎ Contains ys e) → All P xs → All P ys → All P r
+all_of_both P xs ys r from h k =
+    All-from_recursion P r (all_weaker (Contains r) P (λ e c. elim (from e c) [ inl i ↦ All-contains P xs e h i | inr i ↦ All-contains P ys e k i ]) r (each r))

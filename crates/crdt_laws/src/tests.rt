@@ -1,0 +1,86 @@
+ghost use Rattle.std.specs.Prelude.{◌≡◌, ◌≤◌, ◌<◌, IfOk};
+ghost use Rattle.std.specs.List.{All};
+ghost use Rattle.vector_clock.specs.Clock.{IsClock, count};
+ghost use Rattle.vector_clock.specs.Stamp.{IsStamp};
+ghost use Rattle.crdt_laws.specs.Sets.{IsRising};
+
+use crate::{Entry, List, NoMemory, Ops, together};
+use std::alloc::Global;
+use std::test::Fail;
+use vector_clock::{Clock, Stamp};
+
+// A clock of two members.
+fn knows(first: u32, second: u32) -> Clock
+    requires first { first ≤ 9 }
+    requires second { second ≤ 9 }
+    ensures clock { IsClock result }
+    ensures members { result.n ≡ 2 }
+    ensures first { count result 0 ≡ first }
+    ensures second { count result 1 ≡ second }
+{
+    Clock::zero(2).with(0, first).with(1, second)
+}
+
+// The set of one operation.
+fn alone(alloc: Global, stamp: Stamp, op: u8) -> Result<Ops<u8>, NoMemory>
+    requires { IsStamp stamp }
+    ensures rises { IfOk result (λ r. IsRising r) }
+    ensures stamps { IfOk result (λ r. All (λ e. IsStamp e.stamp) r) }
+{
+    let mut ops = Ops::new(alloc);
+    ops.push(stamp, op)?;
+    Ok(ops)
+}
+
+#[test]
+fn joins_sets_by_key(rt: HostRuntime) -> Result<(), Fail> {
+    let first = Stamp {
+        member: 0,
+        clock: knows(1, 0),
+    };
+    let beside = Stamp {
+        member: 1,
+        clock: knows(0, 1),
+    };
+    let after = Stamp {
+        member: 0,
+        clock: knows(2, 1),
+    };
+    let ends = together(
+        rt.alloc(),
+        alone(rt.alloc(), after, 3)?,
+        alone(rt.alloc(), first, 1)?,
+    )?;
+    let starts = together(
+        rt.alloc(),
+        alone(rt.alloc(), first, 1)?,
+        alone(rt.alloc(), beside, 2)?,
+    )?;
+    let all = together(rt.alloc(), ends, starts)?;
+    let mut ops = List::new(rt.alloc());
+    for Entry { stamp: _, op } in all.as_slice() {
+        ops.push(*op)?;
+    }
+    assert_eq!(rt; ops.items.as_slice(), [1, 2, 3].as_slice());
+    assert_eq!(rt; all.len(), 3);
+    Ok(())
+}
+
+#[test]
+fn keeps_what_is_put_in(rt: HostRuntime) -> Result<(), Fail> {
+    let stamp = Stamp {
+        member: 1,
+        clock: knows(0, 1),
+    };
+    let mut ops = Ops::new(rt.alloc());
+    ops.push(stamp, 5)?;
+    ops.insert(0, stamp, 4)?;
+    assert_eq!(rt; ops.get(0).map(|e| e.op), Some(4));
+    assert_eq!(rt; ops.get(1).map(|e| e.op), Some(5));
+    assert_eq!(rt; ops.get(2).map(|e| e.op), None);
+    let mut list = List::new(rt.alloc());
+    list.push(7)?;
+    assert_eq!(rt; list.get(0), Some(&7));
+    assert_eq!(rt; list.len(), 1);
+    Ok(())
+}

@@ -1,0 +1,98 @@
+ghost use Rattle.std.specs.Prelude.{◌≡◌, ◌+◌, ◌<◌, ◌++◌, ◌∷◌, [], ◌⊎◌, IfOk, List, OnOk, drop};
+ghost use Rattle.std.specs.List.{All, Contains};
+ghost use Rattle.std.specs.VecDeque.{deque_len};
+ghost use Rattle.vector_clock.specs.Stamp.{IsStamp, is_less};
+ghost use Rattle.crdt_laws.specs.declared.small.Entry.{Entry};
+ghost use Rattle.crdt_laws.specs.Interleaved.{interleaved};
+ghost use Rattle.crdt_laws.specs.Sets.{IsHonest, IsRising, together};
+
+use crate::small::{Entry, NoMemory, Ops};
+use std::alloc::Global;
+use std::collections::VecDeque;
+use vector_clock::Key;
+
+/// Moves the first entry, where there is one, to the end of the list.
+fn move_front<Op: Drop>(from: &mut VecDeque<Entry<Op>>, to: &mut Ops<Op>) -> Result<(), NoMemory>
+    ensures moved { (e : Entry Op) (rest : List (Entry Op)) → from.old.items ≡ e ∷ rest → OnOk result (to.new ≡ to.old ++ e ∷ []) }
+    ensures rest { from.new.items ≡ drop 1 from.old.items }
+    ensures fewer { 0 < deque_len from.old → deque_len from.new < deque_len from.old }
+{
+    match from.pop_front() {
+        Some(e) => to.push(e.stamp, e.op),
+        None => Ok(()),
+    }
+}
+
+/// Whether the first key is less.
+#[tactic(auto, unfolding(vector_clock::specs::Stamp::is_less))]
+fn is_less(a: &Key, b: &Key) -> bool
+    ensures { result ≡ is_less a.now b.now }
+{
+    a < b
+}
+
+/// Moves the first entry of the lesser key to the end of the list. Where both keys are equal the first one moves, and the
+/// second one goes.
+fn move_next<Op: Drop>(
+    left: &mut VecDeque<Entry<Op>>,
+    right: &mut VecDeque<Entry<Op>>,
+    joined: &mut Ops<Op>,
+) -> Result<(), NoMemory>
+    requires left_some { 0 < deque_len left.old }
+    requires right_some { 0 < deque_len right.old }
+    requires left { All (λ e. IsStamp e.stamp) left.old.items }
+    requires right { All (λ e. IsStamp e.stamp) right.old.items }
+    ensures step { OnOk result (joined.new ++ interleaved left.new.items right.new.items ≡ joined.old ++ interleaved left.old.items right.old.items) }
+    ensures fewer { OnOk result (deque_len left.new + deque_len right.new < deque_len left.old + deque_len right.old) }
+    ensures left { All (λ e. IsStamp e.stamp) left.new.items }
+    ensures right { All (λ e. IsStamp e.stamp) right.new.items }
+{
+    let (Some(x), Some(y)) = (left.front(), right.front()) else {
+        return Ok(());
+    };
+    let first = x.stamp.key();
+    let second = y.stamp.key();
+    if is_less(&first, &second) {
+        move_front(left, joined)
+    } else if is_less(&second, &first) {
+        move_front(right, joined)
+    } else {
+        right.pop_front();
+        move_front(left, joined)
+    }
+}
+
+/// Moves all entries to the end of the list.
+fn move_all<Op: Drop>(from: VecDeque<Entry<Op>>, to: &mut Ops<Op>) -> Result<(), NoMemory>
+    ensures { OnOk result (to.new ≡ to.old ++ from.items) }
+{
+    for e in from {
+        to.push(e.stamp, e.op)?;
+    }
+    Ok(())
+}
+
+/// The operations of two sets as one, by rising key. Each set is given by rising key. Where both hold one operation it
+/// stands once. Only want of memory is refused. It takes one pass over both.
+pub fn together<Op: Drop>(alloc: Global, xs: Ops<Op>, ys: Ops<Op>) -> Result<Ops<Op>, NoMemory>
+    requires left_rises { IsRising xs }
+    requires right_rises { IsRising ys }
+    requires left_stamps { All (λ e. IsStamp e.stamp) xs }
+    requires right_stamps { All (λ e. IsStamp e.stamp) ys }
+    ensures joined { IfOk result (λ r. IsHonest (xs ++ ys) → r ≡ together xs ys) }
+    ensures rises { IfOk result (λ r. IsRising r) }
+    ensures from { IfOk result (λ r. (e : Entry Op) → Contains r e → Contains xs e ⊎ Contains ys e) }
+    ensures stamps { IfOk result (λ r. All (λ e. IsStamp e.stamp) r) }
+{
+    let Ops { items } = xs;
+    let mut left = VecDeque::from(items);
+    let Ops { items } = ys;
+    let mut right = VecDeque::from(items);
+    let mut joined = Ops::new(alloc);
+    while !left.is_empty() && !right.is_empty() {
+        move_next(&mut left, &mut right, &mut joined)?;
+    }
+    move_all(left, &mut joined)?;
+    move_all(right, &mut joined)?;
+    Ok(joined)
+}

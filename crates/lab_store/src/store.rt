@@ -1,0 +1,55 @@
+ghost use Rattle.std.specs.Prelude.{◌≡◌, ℕ, ◌≤◌, List, Option, length, IfErr, IfOk, IfSome, OnOk};
+ghost use Rattle.std.specs.Option.{option_map};
+ghost use Rattle.lab_store.specs.Store.{Finds, IsLonger, MayReplace, OnFailed, OnLong, OnNoMemory, Replaces, ToldNamesDiffer};
+ghost use Rattle.lab_store.specs.Stream.{Rose};
+
+use std::alloc::Global;
+
+/// Why a store could not do what it was asked.
+#[derive(Clone, Copy, Debug, PartialEq, Eq, Drop)]
+pub enum StoreError {
+    /// A read or a write failed outside the program.
+    Failed,
+    /// The file has more bytes than were asked for.
+    Long,
+    /// There was no memory for the answer.
+    NoMemory,
+}
+
+/// Files by their names.
+pub trait Store {
+    /// The names and bytes of the files, where the store tells them. Once it tells them it goes on to do so.
+    ghost files: { Self → Option (List (List ℕ × List ℕ)) };
+
+    /// How many fetches have failed. It never falls, and stays at 2^64 - 1.
+    ghost fetch_faults: { Self → ℕ };
+
+    /// How many replaces have failed. It never falls, and stays at 2^64 - 1.
+    ghost replace_faults: { Self → ℕ };
+
+    /// The bytes of the file of this name, at most `most` of them, or None where there is no such file. Long comes where
+    /// the file has more bytes, and Failed only where the count of failed fetches has risen.
+    fn fetch(&mut self, alloc: Global, name: &str, most: u64) -> Result<Option<Vec<u8>>, StoreError>
+        ensures files { files self.new ≡ files self.old }
+        ensures found { IfOk result (λ o. Finds (files self.old) name.now (option_map (λ v. v.items) o)) }
+        ensures most { IfOk result (λ o. IfSome o (λ v. length v.items ≤ most)) }
+        ensures long { IfErr result (λ e. OnLong e (IsLonger (files self.old) name.now most)) }
+        ensures fault { IfErr result (λ e. OnFailed e (Rose (fetch_faults self.old) (fetch_faults self.new))) }
+        ensures faults { fetch_faults self.old ≤ fetch_faults self.new }
+        ensures other { replace_faults self.new ≡ replace_faults self.old };
+
+    /// Puts the bytes in the place of the file of this name, or last where there is none. After Failed the name holds the
+    /// old bytes or the new ones, and the count of failed replaces has risen. After NoMemory nothing has changed. Long
+    /// never comes.
+    fn replace(&mut self, alloc: Global, name: &str, bytes: &[u8]) -> Result<(), StoreError>
+        ensures replaced { OnOk result (Replaces (files self.old) (files self.new) name.now bytes.now) }
+        ensures part { IfErr result (λ e. OnFailed e (MayReplace (files self.old) (files self.new) name.now bytes.now)) }
+        ensures fault { IfErr result (λ e. OnFailed e (Rose (replace_faults self.old) (replace_faults self.new))) }
+        ensures never_long { IfErr result (λ e. OnLong e ⊥) }
+        ensures no_memory { IfErr result (λ e. OnNoMemory e (files self.new ≡ files self.old)) }
+        ensures faults { replace_faults self.old ≤ replace_faults self.new }
+        ensures other { fetch_faults self.new ≡ fetch_faults self.old };
+
+    /// No name stands twice.
+    ghost names_differ: { (s : Self) → ToldNamesDiffer (files s) };
+}

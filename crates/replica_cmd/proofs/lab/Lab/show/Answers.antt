@@ -1,0 +1,23 @@
+use Rattle.std.proofs.Common.{◌≡◌, Some, sym, ◌∙◌, ap, subst, inl, refl}
+use Rattle.crdt_laws.specs.Document.{MakesDocument}
+use Rattle.replica_model.specs.Family as family
+use Rattle.replica_model.specs.Replica.{Replica, members}
+use Rattle.replica_cmd.specs.declared.number.NumberOp.{NumberOp}
+use Rattle.replica_core.specs.Kept.{IsKept}
+use Rattle.lab_model.specs.Lab.{thing_at}
+use Rattle.replica_cmd.specs.Number.{number_meaning}
+use Rattle.replica_cmd.specs.Things.{contents, thing_of}
+use Rattle.replica_cmd.proofs.KeptLab.{kept_at}
+use Rattle.replica_cmd.proofs.lab.Lab.show.Goals as goal
+
+-- the operations of a replica make a document
+makes : (r : Replica NumberOp) → IsKept number_meaning r → MakesDocument number_meaning r.delivered
+makes r kept = record { members = members r; issued = kept.delivered.issued; apart = inl refl }
+
+pub document-requires : goal.document-requires
+document-requires c =
+    let lab = contents c.args.self.now in
+    let r = c.in-Some-Replica.replica in
+    let found : thing_at lab c.args.file ≡ Some (family.replica r) = sym c.in-Some-Replica.ensures ∙ ap (λ t. Some (thing_of t)) c.in-Some-Replica.field-0-is in
+    let kept = kept_at lab c.args.file (family.replica r) c.requires.kept found in
+    subst (MakesDocument number_meaning) (sym (ap (λ (q : Replica NumberOp). q.delivered) c.replica.view_is)) (makes r kept.0)
