@@ -1,0 +1,4 @@
+pub mod Maybe
+pub mod MaybeLaws
+pub mod Stack
+pub mod StackLaws
