@@ -23,7 +23,7 @@ pub record IsAccepted (text : List ℕ) : Type 0 where
   pub ended : IsEnded text
   pub accepted : is_refusal text ≡ false
 
--- Texts, one for each line that was run, were put, and the flag says whether one of them is that of a refusal.
+-- Texts were put, each ending with a line feed, and the flag says whether one of them is that of a refusal.
 pub record Puts (before after : Option (List ℕ)) (refused : Bool) : Type 0 where
   pub texts : List (List ℕ)
   pub put : Appends before after (flat_map (λ text. text) texts)

@@ -2,6 +2,7 @@
 #![tactic(auto)]
 
 mod answer;
+mod call;
 mod handlers;
 mod lab;
 mod lines;
@@ -9,6 +10,8 @@ mod number;
 mod outside;
 mod parse;
 mod play;
-mod run;
 mod stop;
 mod things;
+
+pub use call::run;
+pub use lab_model::{Command, FileName, Refusal, Verb};

@@ -4,8 +4,8 @@ use Rattle.std.specs.Str.{bytes_eq}
 use Rattle.std.proofs.lemmas.Slice.Eq.{bytes_eq-Decides}
 use Rattle.replica_cmd.specs.Run.{IsPlay, IsRun}
 use Rattle.replica_cmd.proofs.Endings.{first_word, one_of, one_word, play_ends, refusal_ends}
-use Rattle.replica_cmd.proofs.run.run.Goals as goal
-use Rattle.replica_cmd.proofs.run.run.Goals.{in_default-via-then-words-lt1, in_default-via-in-len1+else-eq, in_default-via-else-words-lt1+else-words-lt2}
+use Rattle.replica_cmd.proofs.call.run.Goals as goal
+use Rattle.replica_cmd.proofs.call.run.Goals.{in_default-via-then-words-lt1, in_default-via-in-len1+else-eq, in_default-via-else-words-lt1+else-words-lt2}
 
 pub returns-in-len1-clause-runs : goal.returns-in-len1-clause-runs
 returns-in-len1-clause-runs g c =

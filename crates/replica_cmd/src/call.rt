@@ -57,17 +57,20 @@ fn status_of(outcome: Result<bool, Stop>) -> u8
 pub fn run<K: Store, S: Source, W: Sink>(
     alloc: Global,
     words: &[String],
-    _store: &mut K,
+    store: &mut K,
     source: &mut S,
     sink: &mut W,
 ) -> u8
     ensures runs { IsRun (map string_bytes words.now) (S.left source.old) (W.told sink.old) (W.told sink.new) result }
     ensures source_fault { result ≡ 4 → Rose (S.faults source.old) (S.faults source.new) }
     ensures sink_fault { result ≡ 6 → Rose (W.faults sink.old) (W.faults sink.new) }
-    ensures store { _store.new ≡ _store.old }
+    ensures store { store.new ≡ store.old }
 {
     match words {
         [word] if word.as_str() == "play" => status_of(play(alloc, source, sink)),
         _ => status_of(refuse(alloc, sink, &Refusal::Unbuilt)),
     }
 }
+
+#[cfg(test)]
+mod tests;

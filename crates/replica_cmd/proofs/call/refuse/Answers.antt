@@ -4,7 +4,7 @@ use Rattle.lab_model.specs.Text.{refusal_text}
 use Rattle.replica_cmd.specs.Run.{is_refusal}
 use Rattle.replica_cmd.proofs.Looping.{no_texts, one_more}
 use Rattle.replica_cmd.proofs.Stepping.{refused_is}
-use Rattle.replica_cmd.proofs.run.refuse.Goals as goal
+use Rattle.replica_cmd.proofs.call.refuse.Goals as goal
 
 pub returns-clause-puts : goal.returns-clause-puts
 returns-clause-puts g c =
