@@ -1,9 +1,10 @@
 ghost use Rattle.std.specs.Prelude.{◌≡◌, ◌<◌, IsTrue, IfOk};
 ghost use Rattle.vector_clock.specs.Stamp.{IsStamp};
-ghost use Rattle.crdt_laws.specs.Tower.{IsStampOf, IsWithin};
+ghost use Rattle.crdt_laws.specs.Sets.{AreIssued};
+ghost use Rattle.crdt_laws.specs.Tower.{IsStampOf};
 
 use super::*;
-use crdt_laws::{NoMemory, Tower};
+use crdt_laws::{NoMemory, Ops, Tower, document};
 use direct_product::{Both, Pair, PairOp, Row, RowOp};
 use number_crdts::number;
 use semidirect_product::{Maybe, MaybeOp, StackOp};
@@ -183,5 +184,68 @@ fn three_levels_of_a_number(rt: HostRuntime) -> Result<(), Fail> {
     assert_eq!(rt; falling(alloc, &tower, 2, &low, &middle, &high)?, 0);
     let acted = tower.act(alloc, &high, &low)?;
     assert!(rt; tower.same_op(&acted, &StackOp::Low(StackOp::Low(0))));
+    Ok(())
+}
+
+// The operations with one more, issued by a member who knew so many of each member.
+fn with_one<T: Tower>(
+    alloc: Global,
+    tower: &T,
+    ops: Ops<T::Op>,
+    stamp: Stamp,
+    op: T::Op,
+) -> Result<Ops<T::Op>, NoMemory>
+    requires issued { AreIssued (T.meaning tower.now) 3 ops }
+    requires stamp { IsStampOf 3 stamp }
+    ensures { IfOk result (λ r. AreIssued (T.meaning tower.now) 3 r) }
+{
+    let mut ops = ops;
+    if tower.valid(&stamp, &op) {
+        ops.push(stamp, op)?;
+        Ok(ops)
+    } else {
+        Err(NoMemory)
+    }
+}
+
+// The document of operations of three members in canonical order.
+fn document_of<T: Tower>(alloc: Global, tower: &T, ops: &Ops<T::Op>) -> Result<T::State, NoMemory>
+    requires plain { IsTrue (T.meaning tower.now).plain }
+    requires issued { AreIssued (T.meaning tower.now) 3 ops.now }
+{
+    document(alloc, tower, ops)
+}
+
+// What a member does to two numbers: one adds 5 to the left one, one multiplies that by 3, and the other lets them change places.
+fn deed_of(
+    member: u8,
+    adds: u8,
+    multiplies: u8,
+) -> StackOp<PairOp<StackOp<u64, u64>, StackOp<u64, u64>>, ()> {
+    if member == adds {
+        StackOp::Low(PairOp::Left(StackOp::Low(5)))
+    } else if member == multiplies {
+        StackOp::Low(PairOp::Left(StackOp::High(3)))
+    } else {
+        StackOp::High(())
+    }
+}
+
+// The three do so at once, whoever does what.
+#[test]
+fn one_document_whoever_does_what(rt: HostRuntime) -> Result<(), Fail> {
+    let alloc = rt.alloc();
+    let tower = sides();
+    for (adds, multiplies) in [(0, 1), (0, 2), (1, 0), (1, 2), (2, 0), (2, 1)] {
+        let first = deed_of(0, adds, multiplies);
+        let second = deed_of(1, adds, multiplies);
+        let third = deed_of(2, adds, multiplies);
+        let ops = with_one(alloc, &tower, Ops::new(alloc), first_of(0), first)?;
+        let ops = with_one(alloc, &tower, ops, first_of(1), second)?;
+        let ops = with_one(alloc, &tower, ops, first_of(2), third)?;
+        let state = document_of(alloc, &tower, &ops)?;
+        let shown = tower.show(alloc, &state)?.to_string(alloc)?;
+        assert_eq!(rt; shown.as_str(), "[0,15]", "{adds} {multiplies}");
+    }
     Ok(())
 }
