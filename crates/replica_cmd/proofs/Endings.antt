@@ -1,5 +1,5 @@
 -- How calls end.
-use Rattle.std.proofs.Common.{◌≡◌, ◌⊎◌, inl, inr, ℕ, zero, suc, ◌+◌, ◌≤◌, ◌<◌, Bool, true, false, List, [], ◌∷◌, Option, Some, refl, ap, sym, ◌∙◌, arith, subst, length, get_or, map}
+use Rattle.std.proofs.Common.{◌≡◌, ◌⊎◌, inl, inr, ℕ, ◌≤◌, ◌<◌, Bool, true, false, List, [], ◌∷◌, Option, Some, refl, ap, sym, ◌∙◌, arith, length, get_or, map}
 use Rattle.std.specs.Prelude.{IfOk, IsErrOf, IsOk, OnErr, Result, Ok, Err, codes}
 use Rattle.lab_store.specs.Stream.{Appends, AppendsPart}
 use Rattle.lab_model.specs.Line.{lines_of}

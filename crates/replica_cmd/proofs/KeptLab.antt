@@ -1,7 +1,7 @@
 -- What every thing of a lab keeps is kept by the lab in which one is put.
-use Rattle.std.proofs.Common.{◌≡◌, ℕ, zero, suc, ◌+◌, ◌<◌, ◌≤◌, true, false, List, [], ◌∷◌, Option, None, Some, refl, ap, sym, ◌∙◌, arith, subst, get_or, length, map}
+use Rattle.std.proofs.Common.{◌≡◌, ℕ, zero, suc, ◌+◌, ◌<◌, ◌≤◌, true, false, List, [], ◌∷◌, Option, None, Some, refl, ap, sym, ◌∙◌, arith, subst, get_or}
 use Rattle.std.specs.List.{All, AllByRecursion, insert}
-use Rattle.std.specs.Prelude.{slice_set, OnOk, Result, Ok, Err, String}
+use Rattle.std.specs.Prelude.{Ok, String}
 use Rattle.std.specs.declared.alloc.Global.{Global}
 use Rattle.std.proofs.Common.{inl, inr, set}
 use Rattle.std.proofs.lemmas.Bool.{cases_eq}
@@ -12,19 +12,17 @@ use Rattle.std.specs.Str.{bytes_eq}
 use Rattle.std.proofs.lemmas.List.Elements.{All-from_recursion, recursion_from_All}
 use Rattle.std.proofs.Math.ListN.{length-set}
 use Rattle.crdt_laws.specs.declared.small.Entry.{Entry}
-use Rattle.crdt_laws.specs.Tower.{IsWithin, Meaning, max_seq}
+use Rattle.crdt_laws.specs.Tower.{IsWithin, max_seq}
 use Rattle.replica_model.specs.Replica.{Replica, Batch, edited, members, new_replica, next_stamp, version}
 use Rattle.replica_model.specs.Family as family
 use Rattle.replica_model.specs.Family.{Thing}
-use Rattle.replica_core.specs.Kept.{IsKept, IsUpTo, IsReplicaUpTo, IsBatchUpTo}
-use Rattle.lab_model.specs.Lab.{Lab, pair_members, thing_at, with_thing}
+use Rattle.replica_core.specs.Kept.{IsKept, IsUpTo, IsReplicaUpTo}
+use Rattle.lab_model.specs.Lab.{Lab, thing_at, with_thing}
 use Rattle.crdt_laws.specs.Sets.{IsHonest}
 use Rattle.std.proofs.Common.{◌++◌}
 use Rattle.lab_model.proofs.Runs.{meets_at}
 use Rattle.lab_model.specs.Honest.{IsHonestLab, things}
-use Rattle.replica_cmd.specs.declared.number.NumberOp.{NumberOp}
-use Rattle.replica_cmd.specs.declared.things.Hindrance.TheVariants.{Refused}
-use Rattle.replica_cmd.specs.Number.{number_meaning}
+use Rattle.replica_cmd.specs.Number.{number_meaning, NumberOp}
 use Rattle.replica_cmd.specs.Things.{IsKeptLab, IsKeptThing, IsLabUpTo, IsPlaceOf, IsThingUpTo, Keeps, replica_or}
 
 module _ (P : Thing NumberOp → Type 0) where

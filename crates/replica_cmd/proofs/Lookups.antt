@@ -1,15 +1,13 @@
 -- What stands under a name in a lab, by the place of the name.
-use Rattle.std.proofs.Common.{◌≡◌, ℕ, zero, suc, ◌+◌, ◌<◌, ◌≤◌, true, false, List, [], ◌∷◌, ◌++◌, Option, None, Some, refl, ap, ap₂, sym, ◌∙◌, arith, get_or, length, map, set, take, drop}
+use Rattle.std.proofs.Common.{◌≡◌, ℕ, zero, suc, ◌+◌, ◌<◌, ◌≤◌, true, false, List, [], ◌∷◌, ◌++◌, None, Some, refl, ap, sym, arith, get_or, length, set}
 use Rattle.std.specs.Prelude.{Bool, cond, nat_lt}
 use Rattle.std.specs.List.{insert, remove, position, position_or_len}
 use Rattle.std.proofs.lemmas.Bool.Decides.{nat_tests}
-use Rattle.std.specs.Map.{lookup}
 use Rattle.std.specs.Str.{bytes_eq}
-use Rattle.std.proofs.lemmas.Grind.{common_steps}
 use Rattle.std.proofs.lemmas.List.Quantifiers.{position-Some}
 use Rattle.replica_model.specs.Family.{Thing}
-use Rattle.lab_model.specs.Lab.{Lab, thing_at, with_thing}
-use Rattle.replica_cmd.specs.declared.number.NumberOp.{NumberOp}
+use Rattle.lab_model.specs.Lab.{thing_at, with_thing}
+use Rattle.replica_cmd.specs.Number.{NumberOp}
 use Rattle.replica_cmd.specs.declared.things.Named.{Named}
 use Rattle.replica_cmd.specs.Things.{lab_of, pair_of, thing_of}
 

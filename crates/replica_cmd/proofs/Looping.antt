@@ -1,5 +1,5 @@
 -- How the lines of a script follow one another.
-use Rattle.std.proofs.Common.{◌≡◌, ◌⊎◌, ◌↔◌, inl, inr, ℕ, zero, suc, Bor, drop, map, add-one, ◌+◌, ◌≤◌, ◌<◌, Bool, true, false, List, [], ◌∷◌, ◌++◌, Option, None, Some, refl, ap, ap₂, sym, ◌∙◌, arith, subst, length, get_or, take, append_assoc, ◌^◌, take_all}
+use Rattle.std.proofs.Common.{◌≡◌, inl, inr, ℕ, zero, suc, Bor, drop, map, add-one, ◌+◌, ◌≤◌, ◌<◌, Bool, true, false, List, [], ◌∷◌, ◌++◌, Option, None, Some, refl, ap, ap₂, sym, ◌∙◌, arith, subst, length, get_or, take, append_assoc, ◌^◌, take_all}
 use Rattle.std.proofs.lemmas.Bool.{cases_lt}
 use Rattle.std.proofs.lemmas.Grind.{flat_map-append}
 use Rattle.std.proofs.lemmas.List.{append-nil, take-append-le}
@@ -7,17 +7,16 @@ use Rattle.std.proofs.Math.Seq.{take-append_seam, take-append-add}
 use Rattle.vector_clock.specs.declared.stamp.Stamp.{Stamp}
 use Rattle.crdt_laws.specs.Tower.{IsStampOf, IsWithin}
 use Rattle.lab_model.specs.declared.command.Verb.{Verb}
-use Rattle.replica_cmd.proofs.Bounds.{word_op}
+use Rattle.replica_cmd.proofs.Bounds.{valid_op, word_op}
 use Rattle.std.specs.Prelude.{◌||◌, OnErr, Result, Ok, Err}
-use Rattle.std.specs.List.{All, flat_map, list_any}
+use Rattle.std.specs.List.{flat_map, list_any}
 use Rattle.std.proofs.lemmas.List.Elements.{All-append, All-from_recursion}
 use Rattle.lab_store.specs.Stream.{Appends, AppendsPart}
 use Rattle.lab_model.specs.Honest.{AreFair, IsHonestLab, MakesValid}
 use Rattle.lab_model.specs.Lab.{Lab, lab_run, lab_step, pair_members}
 use Rattle.lab_model.proofs.Runs as model
 use Rattle.crdt_laws.specs.Tower.{max_seq}
-use Rattle.replica_cmd.specs.declared.number.NumberOp.{NumberOp}
-use Rattle.replica_cmd.specs.Number.{number_meaning, number_op}
+use Rattle.replica_cmd.specs.Number.{number_meaning, number_op, NumberOp}
 use Rattle.replica_cmd.specs.Run.{is_refusal, run_refused, run_text, AreFairLines, ArePlayed, IsEnded, Puts}
 use Rattle.replica_cmd.specs.Steps.{outcome, Steps}
 
@@ -92,7 +91,7 @@ pub record Follows (lines rest : List (List ℕ)) (k : ℕ) (lab : Lab NumberOp)
   pub last : (lab_run number_meaning number_op lab rest).lab ≡ (lab_run number_meaning number_op [] lines).lab
 
 valid_ops : (v : Verb) (x : ℕ) → x < 2 ^ 64 → (p : Stamp) → IsStampOf pair_members p → IsWithin p → number_meaning.valid p (number_op v x)
-valid_ops v x h p s w = record { within = w; word = word_op v x h }
+valid_ops v x h p s w = valid_op p (number_op v x) w (word_op v x h)
 
 makes_valid : MakesValid number_meaning number_op
 makes_valid = record { each = λ v x p h s w. valid_ops v x h p s w }

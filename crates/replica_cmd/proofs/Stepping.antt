@@ -1,19 +1,18 @@
 -- What lines say, and that what they do is the step of the definition.
-use Rattle.std.proofs.Common.{◌≡◌, ℕ, ◌+◌, ◌<◌, ◌≤◌, true, false, List, [], ◌∷◌, ◌++◌, Option, None, Some, refl, ap, ap₂, sym, ◌∙◌, arith, subst}
+use Rattle.std.proofs.Common.{◌≡◌, ℕ, ◌+◌, true, false, List, ◌++◌, Some, refl, ap, ap₂, sym, ◌∙◌, arith, subst}
 use Rattle.lab_model.specs.Honest.{IsHonestLab}
 use Rattle.std.specs.Prelude.{codes, OnOk, Result, Ok, Err, String}
 use Rattle.std.specs.declared.alloc.Global.{Global}
 use Rattle.lab_model.specs.declared.command.Command.{Command}
 use Rattle.lab_model.specs.declared.command.Command.TheVariants.{New, Edit, Show, Export, Merge, Play}
 use Rattle.lab_model.specs.declared.refusal.Refusal.{Refusal}
-use Rattle.lab_model.specs.Lab.{Effect, Lab, act_on, effect, lab_step, outcome_of}
+use Rattle.lab_model.specs.Lab.{Lab, act_on, effect, lab_step, outcome_of}
 use Rattle.lab_model.specs.Line.{command_of}
 use Rattle.lab_model.specs.Text.{ended, refusal_text, refused_text}
 use Rattle.lab_model.proofs.Commands.{IsReadable, command_readable}
-use Rattle.replica_cmd.specs.declared.number.NumberOp.{NumberOp}
+use Rattle.replica_cmd.specs.Number.{number_meaning, number_op, NumberOp}
 use Rattle.replica_cmd.specs.declared.things.Hindrance.{Hindrance}
-use Rattle.replica_cmd.specs.Number.{number_meaning, number_op}
-use Rattle.replica_cmd.specs.Run.{is_refusal, IsAccepted, IsEnded}
+use Rattle.replica_cmd.specs.Run.{is_refusal, IsAccepted}
 use Rattle.replica_cmd.specs.Steps.{outcome, HasMember, Steps}
 use Rattle.replica_cmd.specs.Things.{IsKeptLab, IsLabUpTo, Keeps}
 use Rattle.replica_cmd.proofs.KeptLab.{lab_up_to_more}

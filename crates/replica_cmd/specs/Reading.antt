@@ -1,5 +1,5 @@
 -- The script that a source holds.
-use Rattle.std.specs.Prelude.{◌≡◌, ℕ, ◌<◌, ◌≤◌, List, [], ◌++◌, Option, None, Some, length}
+use Rattle.std.specs.Prelude.{◌≡◌, ℕ, ◌<◌, List, ◌++◌, Option, None, Some, length}
 
 -- the most bytes that a script may have
 abbrev pub most_bytes : ℕ

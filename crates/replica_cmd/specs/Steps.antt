@@ -1,12 +1,11 @@
 -- What one line does, as the loop over the lines of a script sees it.
-use Rattle.std.specs.Prelude.{◌≡◌, ℕ, ◌+◌, ◌<◌, List, [], ◌∷◌, ◌++◌, ◌||◌, Bool, false, Option}
+use Rattle.std.specs.Prelude.{◌≡◌, ℕ, ◌+◌, ◌<◌, List, Bool, Option}
 use Rattle.lab_store.specs.Stream.{Appends}
 use Rattle.lab_model.specs.declared.command.Command.{Command}
 use Rattle.lab_model.specs.declared.command.Command.TheVariants.{New, Edit, Show, Export, Merge, Play}
 use Rattle.lab_model.specs.Honest.{IsHonestLab}
 use Rattle.lab_model.specs.Lab.{Lab, Outcome, lab_step, pair_members}
-use Rattle.replica_cmd.specs.declared.number.NumberOp.{NumberOp}
-use Rattle.replica_cmd.specs.Number.{number_meaning, number_op}
+use Rattle.replica_cmd.specs.Number.{number_meaning, number_op, NumberOp}
 use Rattle.replica_cmd.specs.Run.{is_refusal, IsEnded}
 use Rattle.replica_cmd.specs.Things.{IsKeptLab, IsLabUpTo}
 

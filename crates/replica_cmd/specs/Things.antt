@@ -1,8 +1,8 @@
 -- The program's lab, seen as the lab of the definitions, and what its calls do to it.
-use Rattle.std.specs.Prelude.{◌≡◌, ℕ, ◌+◌, ◌≤◌, List, OnOk, Option, None, Some, Result, Ok, Err, insert, map, String, string_bytes}
+use Rattle.std.specs.Prelude.{◌≡◌, ℕ, ◌+◌, List, OnOk, Option, None, Some, Result, Ok, Err, insert, map, String, string_bytes}
 use Rattle.std.specs.declared.alloc.Global.{Global}
 use Rattle.std.specs.List.{All}
-use Rattle.replica_model.specs.Replica.{Replica, Batch, members}
+use Rattle.replica_model.specs.Replica.{Replica, members}
 use Rattle.replica_model.specs.Family as family
 use Rattle.replica_model.specs.Family.{Thing}
 use Rattle.replica_core.specs.Kept.{IsKept, IsKeptBatch, IsReplicaUpTo, IsBatchUpTo}
@@ -10,13 +10,12 @@ use Rattle.lab_model.specs.declared.refusal.Refusal.{Refusal}
 use Rattle.lab_model.specs.declared.refusal.Refusal.TheVariants.{Unbuilt, Missing}
 use Rattle.lab_model.specs.Lab.{Lab, Effect, effect, pair_members, with_thing}
 use Rattle.lab_model.specs.Honest.{things}
-use Rattle.replica_cmd.specs.declared.number.NumberOp.{NumberOp}
+use Rattle.replica_cmd.specs.Number.{number_meaning, NumberOp}
 use Rattle.replica_cmd.specs.declared.lab.Lab as lab
 use Rattle.replica_cmd.specs.declared.things.Named as named
 use Rattle.replica_cmd.specs.declared.things.Thing as thing
 use Rattle.replica_cmd.specs.declared.things.Hindrance.{Hindrance}
 use Rattle.replica_cmd.specs.declared.things.Hindrance.TheVariants.{Refused, NoMemory}
-use Rattle.replica_cmd.specs.Number.{number_meaning}
 
 abbrev pub thing_of : thing.Thing → Thing NumberOp
 thing_of (thing.TheVariants.Replica r) = family.replica r

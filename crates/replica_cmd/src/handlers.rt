@@ -6,10 +6,11 @@ ghost use Rattle.serde_json.specs.Written.{has_float};
 ghost use Rattle.lab_model.specs.Text.{delivered_text, document_text};
 
 use crate::lab::Lab;
-use crate::number::{Number, NumberOp};
+use crate::number::NumberOp;
 use crate::things::{Hindrance, Thing};
 use crdt_laws::{NoMemory, Tower, Txt, document};
 use lab_model::{FileName, Refusal};
+use number_crdts::number;
 use replica_core::{Replica, copy_batch};
 use serde_json::{Value, json};
 use std::alloc::Global;
@@ -51,7 +52,7 @@ impl Lab {
     ghost use Rattle.lab_model.specs.Lab.{thing_at, pair_members, new_under, edit_under, show_under, export_under, merge_under};
     ghost use Rattle.lab_model.specs.Honest.{IsHonestLab};
     ghost use Rattle.replica_core.specs.Kept.{IsKept};
-    ghost use Rattle.replica_cmd.specs.Number.{number_meaning, number_op, IsWordOp};
+    ghost use Rattle.replica_cmd.specs.Number.{number_meaning, number_op};
     ghost use Rattle.replica_cmd.specs.Run.{IsAccepted};
     ghost use Rattle.replica_cmd.specs.Things.{contents, most_made, Answers, IsKeptLab, IsLabUpTo, Keeps};
 
@@ -88,7 +89,7 @@ impl Lab {
         file: FileName,
         op: NumberOp,
     ) -> Result<String, Hindrance>
-        requires word { IsWordOp op }
+        requires well_formed { number_meaning.well_formed op }
         requires kept { IsKeptLab (contents self.old) }
         requires room { IsLabUpTo most_made (contents self.old) }
         ensures answers { Answers result (contents self.new) (edit_under number_meaning number_op (contents self.old) file op (thing_at (contents self.old) file)) }
@@ -96,7 +97,7 @@ impl Lab {
         ensures said { IfOk result (λ text. IsAccepted (string_bytes text)) }
     {
         let (gap, replica) = self.take_replica(file)?;
-        let replica = replica.edit(alloc, &Number, op)?;
+        let replica = replica.edit(alloc, &number(), op)?;
         self.put_back(gap, replica)?;
         Ok(String::from_str(alloc, "made 1\n")?)
     }
@@ -112,8 +113,8 @@ impl Lab {
             Some(Thing::Batch(_)) => return Err(Hindrance::Refused(Refusal::Unbuilt)),
             None => return Err(Hindrance::Refused(Refusal::Missing(file))),
         };
-        let number = document(alloc, &Number, &replica.delivered)?;
-        let shown = Number.show(alloc, &number)?;
+        let state = document(alloc, &number(), &replica.delivered)?;
+        let shown = number().show(alloc, &state)?;
         Ok(text_of_document(alloc, shown)?)
     }
 
@@ -133,7 +134,7 @@ impl Lab {
             return Err(Hindrance::Refused(Refusal::Unbuilt));
         }
         let batch = match self.find(&file) {
-            Some(Thing::Replica(replica)) => replica.export(alloc, &Number, None)?,
+            Some(Thing::Replica(replica)) => replica.export(alloc, &number(), None)?,
             Some(Thing::Batch(_)) => return Err(Hindrance::Refused(Refusal::Unbuilt)),
             None => return Err(Hindrance::Refused(Refusal::Missing(file))),
         };
@@ -160,10 +161,10 @@ impl Lab {
             }
             (None, _) => return Err(Hindrance::Refused(Refusal::Missing(file))),
             (_, None) => return Err(Hindrance::Refused(Refusal::Missing(name))),
-            (_, Some(Thing::Batch(batch))) => copy_batch(alloc, &Number, batch)?,
+            (_, Some(Thing::Batch(batch))) => copy_batch(alloc, &number(), batch)?,
         };
         let (gap, replica) = self.take_replica(file)?;
-        let (replica, merged) = replica.merge(alloc, &Number, batch)?;
+        let (replica, merged) = replica.merge(alloc, &number(), batch)?;
         self.put_back(gap, replica)?;
         Ok(text_of_merge(alloc, merged.delivered, merged.waiting)?)
     }

@@ -1,7 +1,8 @@
-use crate::number::{Number, NumberOp};
+use crate::number::NumberOp;
 use crate::things::{Hindrance, Named, Thing};
 use crdt_laws::NoMemory;
 use lab_model::{FileName, Refusal};
+use number_crdts::Number;
 use replica_core::Replica;
 use std::alloc::Global;
 

@@ -1,6 +1,7 @@
-use crate::number::{Number, NumberOp};
+use crate::number::NumberOp;
 use crdt_laws::NoMemory;
 use lab_model::{FileName, Refusal};
+use number_crdts::Number;
 use replica_core::{Batch, Replica};
 use std::alloc::AllocError;
 

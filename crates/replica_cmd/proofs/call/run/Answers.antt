@@ -1,6 +1,5 @@
-use Rattle.std.proofs.Common.{◌≡◌, ℕ, false, ◌∷◌, [], List, map, sym, ◌∙◌, ap, subst, arith, tests, length}
+use Rattle.std.proofs.Common.{◌≡◌, ◌∷◌, [], map, sym, ◌∙◌, ap, subst, arith, tests, length}
 use Rattle.std.specs.Prelude.{codes, string_bytes}
-use Rattle.std.specs.Str.{bytes_eq}
 use Rattle.std.proofs.lemmas.Slice.Eq.{bytes_eq-Decides}
 use Rattle.replica_cmd.specs.Run.{IsPlay, IsRun}
 use Rattle.replica_cmd.proofs.Endings.{first_word, one_of, one_word, play_ends, refusal_ends}

@@ -1,5 +1,4 @@
-use Rattle.std.proofs.Common.{◌≡◌, ◌∙◌, false, ℕ, ◌+◌, ◌<◌, [], ◌∷◌, drop, map, sym, subst, refl, inl, inr, arith, length}
-use Rattle.replica_cmd.specs.Run.{run_text, AreFairLines}
+use Rattle.std.proofs.Common.{◌∙◌, false, ◌+◌, drop, map, sym, subst, refl, inl, inr, arith}
 use Rattle.replica_cmd.specs.Things.{contents, most_made, IsKeptLab, IsLabUpTo}
 use Rattle.replica_cmd.proofs.KeptLab.{lab_up_to_more}
 use Rattle.replica_cmd.proofs.Looping.{Follows, follows_start, follows_next, follows_part, follows_none, next_line, no_texts, on_err, one_more}

@@ -1,16 +1,16 @@
-use Rattle.std.proofs.Common.{◌≡◌, ◌+◌, ℕ, Some, Ok, [], ◌∷◌, ◌++◌, sym, ◌∙◌, ap, ap₂, arith, subst}
+use Rattle.std.proofs.Common.{◌≡◌, Ok, [], ◌∷◌, ◌++◌, sym, ◌∙◌, ap, ap₂, arith}
 use Rattle.std.specs.Prelude.{codes}
 use Rattle.std.proofs.lemmas.Fmt.{decimal_digit}
 use Rattle.replica_model.specs.Family as family
 use Rattle.replica_model.specs.Replica.{members}
-use Rattle.replica_core.specs.Kept.{IsKept, IsReplicaUpTo}
-use Rattle.lab_model.specs.Lab.{effect, edit_under, pair_members, thing_at, with_thing}
+use Rattle.lab_model.specs.Lab.{effect, edit_under, with_thing}
 use Rattle.lab_model.specs.Text.{made_text}
 use Rattle.replica_cmd.specs.Number.{number_meaning, number_op}
-use Rattle.replica_cmd.specs.Things.{contents, most_made, IsKeptThing}
+use Rattle.replica_cmd.specs.Things.{contents, most_made}
 use Rattle.replica_cmd.proofs.KeptLab.{back_in_place, found_replica, kept_at, keeps_put, members-edited, next_within, up_to_at}
 use Rattle.std.specs.Prelude.{string_bytes}
 use Rattle.std.proofs.Common.{refl}
+use Rattle.replica_cmd.proofs.Bounds.{valid_op}
 use Rattle.replica_cmd.proofs.Stepping.{accepted_from}
 use Rattle.replica_cmd.proofs.lab.Lab.edit.Goals as goal
 
@@ -24,10 +24,9 @@ edit-requires-clause-valid c =
     let lab = contents c.args.self.now in
     let r = c.in_ok-gap.replica in
     let there = found_replica lab c.args.file r c.in_ok-gap.ensures.found in
-    record {
-      within = next_within r most_made (kept_at lab c.args.file (family.replica r) c.requires.kept there).0 (up_to_at lab c.args.file (family.replica r) most_made c.requires.room there) (omega arith);
-      word = c.requires.word;
-    }
+    valid_op _ c.args.op
+    (next_within r most_made (kept_at lab c.args.file (family.replica r) c.requires.kept there).0 (up_to_at lab c.args.file (family.replica r) most_made c.requires.room there) (omega arith))
+    c.requires.well_formed
 
 -- the lab has the replica in its place
 in_place : (c : goal.In_ok-from_str) → contents c.put_back.new.self ≡ with_thing (contents c.args.self.now) c.args.file (family.replica c.in_ok-replica.replica)

@@ -2,7 +2,6 @@ use Rattle.std.proofs.Common.{◌≡◌, ◌+◌, Some, sym, ◌∙◌, ap, arit
 use Rattle.replica_model.specs.Family as family
 use Rattle.lab_model.specs.Lab.{thing_at}
 use Rattle.replica_core.specs.Kept.{IsKeptBatch}
-use Rattle.lab_model.specs.Lab.{pair_members}
 use Rattle.replica_cmd.specs.Number.{number_meaning}
 use Rattle.replica_cmd.specs.Things.{contents, thing_of}
 use Rattle.replica_cmd.proofs.KeptLab.{kept_at, keeps_put, up_to_at, thing_up_to_more}

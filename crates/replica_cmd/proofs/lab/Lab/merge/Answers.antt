@@ -1,10 +1,9 @@
 use Rattle.std.proofs.Common.{◌≡◌, ◌+◌, ◌-◌, Some, Ok, length, sym, ◌∙◌, ap, ap₂, arith, subst, rules}
 use Rattle.replica_model.specs.Family as family
-use Rattle.replica_model.specs.Replica.{Batch, merged}
-use Rattle.replica_core.specs.Kept.{IsKeptBatch, IsReplicaUpTo}
-use Rattle.lab_model.specs.Lab.{effect, merge_under, pair_members, thing_at, with_thing}
+use Rattle.replica_model.specs.Replica.{merged}
+use Rattle.replica_core.specs.Kept.{IsKeptBatch}
+use Rattle.lab_model.specs.Lab.{effect, merge_under, thing_at, with_thing}
 use Rattle.lab_model.specs.Text.{delivered_text}
-use Rattle.replica_cmd.specs.declared.number.NumberOp.{NumberOp}
 use Rattle.replica_cmd.specs.Number.{number_meaning, number_op}
 use Rattle.replica_cmd.specs.Things.{contents}
 use Rattle.replica_cmd.proofs.KeptLab.{back_in_place, found_replica, honest_pool, kept_at, keeps_put, up_to_at, thing_up_to_more}

@@ -2,10 +2,9 @@ use Rattle.std.proofs.Common.{◌≡◌, Some, sym, ◌∙◌, ap, subst, inl, r
 use Rattle.crdt_laws.specs.Document.{MakesDocument}
 use Rattle.replica_model.specs.Family as family
 use Rattle.replica_model.specs.Replica.{Replica, members}
-use Rattle.replica_cmd.specs.declared.number.NumberOp.{NumberOp}
+use Rattle.replica_cmd.specs.Number.{number_meaning, NumberOp}
 use Rattle.replica_core.specs.Kept.{IsKept}
 use Rattle.lab_model.specs.Lab.{thing_at}
-use Rattle.replica_cmd.specs.Number.{number_meaning}
 use Rattle.replica_cmd.specs.Things.{contents, thing_of}
 use Rattle.replica_cmd.proofs.KeptLab.{kept_at}
 use Rattle.replica_cmd.proofs.lab.Lab.show.Goals as goal

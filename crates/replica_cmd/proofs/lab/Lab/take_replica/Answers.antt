@@ -1,4 +1,4 @@
-use Rattle.std.proofs.Common.{◌≡◌, sym, ◌∙◌, ap, Some}
+use Rattle.std.proofs.Common.{sym, ◌∙◌, ap, Some}
 use Rattle.std.specs.List.{insert}
 use Rattle.replica_cmd.specs.declared.things.Named.{Named}
 use Rattle.replica_cmd.specs.Things.{lab_of, replica_or, thing_of}
