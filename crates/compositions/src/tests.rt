@@ -44,6 +44,16 @@ fn after<T: Tower>(
     }
 }
 
+// What an operation becomes when another acts on it. One that is not valid ends a test as want of memory does.
+fn acted<T: Tower>(alloc: Global, tower: &T, y: &T::Op, x: &T::Op) -> Result<T::Op, NoMemory> {
+    let stamp = first_of(0);
+    if tower.valid(&stamp, y) && tower.valid(&stamp, x) {
+        tower.act(alloc, y, x)
+    } else {
+        Err(NoMemory)
+    }
+}
+
 #[test]
 fn adds_and_multiplies(rt: HostRuntime) -> Result<(), Fail> {
     let alloc = rt.alloc();
@@ -67,7 +77,9 @@ fn keeps_two_numbers_apart(rt: HostRuntime) -> Result<(), Fail> {
     let state = tower.init(alloc)?;
     let state = after(alloc, &tower, state, 0, &PairOp::Left(StackOp::Low(2)))?;
     let state = after(alloc, &tower, state, 1, &PairOp::Right(StackOp::Low(7)))?;
-    let state = after(alloc, &tower, state, 2, &PairOp::Right(StackOp::High(3)))?;
+    let triple = PairOp::Right(StackOp::High(3));
+    let state = after(alloc, &tower, state, 2, &triple)?;
+    let state = tower.settle(alloc, state, &Clock::zero(3))?;
     let copy = tower.copy_state(alloc, &state)?;
     assert_eq!(rt; copy, Both { left: 2, right: 21 });
     let shown = tower.show(alloc, &state)?.to_string(alloc)?;
@@ -75,6 +87,8 @@ fn keeps_two_numbers_apart(rt: HostRuntime) -> Result<(), Fail> {
     let seven = PairOp::Right(StackOp::Low(7));
     assert!(rt; tower.same_op(&seven, &tower.copy_op(alloc, &seven)?));
     assert!(rt; !tower.same_op(&seven, &PairOp::Left(StackOp::Low(7))));
+    let tripled = PairOp::Right(StackOp::Low(21));
+    assert!(rt; tower.same_op(&acted(alloc, &tower, &triple, &seven)?, &tripled));
     Ok(())
 }
 
@@ -103,6 +117,7 @@ fn keeps_the_parts_of_a_row_apart(rt: HostRuntime) -> Result<(), Fail> {
     let state = after(alloc, &tower, state, 0, &five)?;
     let state = after(alloc, &tower, state, 1, &nothing)?;
     let state = after(alloc, &tower, state, 2, &eight)?;
+    let state = tower.settle(alloc, state, &Clock::zero(3))?;
     let copy = tower.copy_state(alloc, &state)?;
     assert_eq!(rt; copy.items.as_slice(), [0, 5, 8].as_slice());
     let shown = tower.show(alloc, &state)?.to_string(alloc)?;
@@ -110,6 +125,15 @@ fn keeps_the_parts_of_a_row_apart(rt: HostRuntime) -> Result<(), Fail> {
     assert!(rt; tower.same_op(&nothing, &tower.copy_op(alloc, &nothing)?));
     assert!(rt; !tower.same_op(&nothing, &five));
     assert!(rt; !tower.same_op(&eight, &five));
+    let triple = RowOp {
+        part: 1,
+        op: MaybeOp::Real(StackOp::High(3)),
+    };
+    let fifteen = RowOp {
+        part: 1,
+        op: MaybeOp::Real(StackOp::Low(15)),
+    };
+    assert!(rt; tower.same_op(&acted(alloc, &tower, &triple, &five)?, &fifteen));
     Ok(())
 }
 
