@@ -1,0 +1,4 @@
+pub mod Cases
+pub mod Reading
+pub mod Texts
+pub mod Verdicts

@@ -1,0 +1,8 @@
+use Rattle.action_tables.proofs.Texts.{one_fault_lem, no_fault_lem}
+use Rattle.action_tables.proofs.laws.one_reading.Goals as goal
+
+pub returns-clause-no_fault : goal.returns-clause-no_fault
+returns-clause-no_fault c = no_fault_lem
+
+pub returns-clause-one_fault : goal.returns-clause-one_fault
+returns-clause-one_fault c = one_fault_lem

@@ -1,0 +1,9 @@
+use Rattle.std.proofs.Common.{◌≡◌, map, take, Some}
+use Rattle.serde_json.specs.View.{view}
+use Rattle.serde_json.specs.Find.{as_str}
+use Rattle.action_tables.specs.TableText.{each_of}
+use Rattle.action_tables.proofs.written.each_text.Given as goal
+
+-- the values so far were read
+abbrev pub invariant-loop-value : goal.invariant-loop-value
+invariant-loop-value l = each_of as_str (map view (take l.value-index l.values)) ≡ Some l.texts.items
