@@ -1,0 +1,4 @@
+mod Checked
+mod FlagTables
+mod LadderTable
+mod Rows

@@ -1,0 +1,26 @@
+//! Flags and ladders are tables of `action_tables`, which its checker tells lawful. Each law is the contract of a function that
+//! does nothing.
+ghost use Rattle.std.specs.Prelude.{◌≡◌, ℕ, ◌*◌, ◌<◌};
+ghost use Rattle.action_tables.specs.Table.{IsTable, act_of, level_of, next_of};
+ghost use Rattle.action_tables.specs.Verdict.{IsVerdict};
+ghost use Rattle.flag_crdts.specs.Flags.{off_table, on_table};
+ghost use Rattle.flag_crdts.specs.Ladder.{IsLadderSize, ladder_act, ladder_level, ladder_next, ladder_table};
+
+use action_tables::Verdict;
+
+/// The tables of both flags are lawful.
+pub fn flags_are_lawful()
+    ensures on { IsTable on_table }
+    ensures on_lawful { IsVerdict on_table Verdict.Lawful }
+    ensures off { IsTable off_table }
+    ensures off_lawful { IsVerdict off_table Verdict.Lawful }
+{}
+
+/// A ladder written as a table has the ladder's levels, states and actions, and is lawful, whatever its number of values.
+pub fn ladders_are_lawful()
+    ensures table { (n : ℕ) → IsLadderSize n → IsTable (ladder_table n) }
+    ensures lawful { (n : ℕ) → IsLadderSize n → IsVerdict (ladder_table n) Verdict.Lawful }
+    ensures level { (n o : ℕ) → o < 2 * n → level_of (ladder_table n) o ≡ ladder_level n o }
+    ensures next { (n s o : ℕ) → s < n → o < 2 * n → next_of (ladder_table n) s o ≡ ladder_next n s o }
+    ensures act { (n y x : ℕ) → y < 2 * n → x < 2 * n → act_of (ladder_table n) y x ≡ ladder_act n y x }
+{}
