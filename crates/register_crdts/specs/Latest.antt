@@ -1,0 +1,73 @@
+-- What a register means that keeps one text: of all sets the one of the greatest key.
+use Rattle.std.specs.Prelude.{ℕ, ◌*◌, ◌<◌, ◌≤◌, List, true, false, if◌then◌else◌, IsTrue, Option, Some, None}
+use Rattle.serde_json.specs.Data.{Data, null, string}
+use Rattle.vector_clock.specs.declared.clock.Clock.{Clock}
+use Rattle.vector_clock.specs.declared.clock.Id.{Id}
+use Rattle.vector_clock.specs.declared.stamp.Key.{Key}
+use Rattle.vector_clock.specs.declared.stamp.Stamp.{Stamp}
+use Rattle.vector_clock.specs.Clock.{covers}
+use Rattle.vector_clock.specs.Stamp.{is_less, key_of}
+use Rattle.crdt_laws.specs.Tower.{Meaning, max_seq}
+use Rattle.register_crdts.specs.declared.latest.Set.{Set}
+use Rattle.register_crdts.specs.Text.{IsText, IsTextAt}
+
+-- the set of this text at this stamp
+abbrev pub set_at : Stamp → List ℕ → Set
+set_at p x = record { key = key_of p; text = x }
+
+-- of two sets the one of the greater key
+abbrev pub later : Set → Set → Set
+later a b = if is_less a.key b.key then b else a
+
+-- the first set stays where it is the only one
+abbrev pub latest_apply : Option Set → Stamp → List ℕ → Option Set
+latest_apply None p x = Some (set_at p x)
+latest_apply (Some s) p x = Some (later s (set_at p x))
+
+-- the text, or null before any set
+abbrev pub latest_show : Option Set → Data
+latest_show None = null
+latest_show (Some s) = string s.text
+
+-- the name of the operation that has this key
+abbrev pub id_of_key : Key → Id
+id_of_key k = record { member = k.member; seq = k.seq }
+
+-- a key that a valid operation of a document with n members may have
+pub record IsKeyOf (n : ℕ) (k : Key) : Type 0 where
+  pub sum : k.sum ≤ n * max_seq
+  pub member : k.member < n
+  pub low : 1 ≤ k.seq
+  pub high : k.seq ≤ max_seq
+
+-- a set of a document with n members
+pub record IsSetOf (n : ℕ) (s : Set) : Type 0 where
+  pub key : IsKeyOf n s.key
+  pub text : IsText s.text
+
+abbrev pub latest_good : ℕ → Option Set → Type 0
+latest_good n None = Unit {0}
+latest_good n (Some s) = IsSetOf n s
+
+-- the clock covers the operation that set the text
+abbrev pub latest_good_at : Clock → Option Set → Type 0
+latest_good_at d None = Unit {0}
+latest_good_at d (Some s) = IsSetOf d.n s × IsTrue (covers d (id_of_key s.key))
+
+abbrev pub latest_meaning : Meaning (Option Set) (List ℕ)
+latest_meaning = record {
+  top = 1;
+  level = λ _. 1;
+  well_formed = IsText;
+  valid = IsTextAt;
+  init = None;
+  apply = latest_apply;
+  act = λ _ x. x;
+  settle = λ s _. s;
+  show = latest_show;
+  good = latest_good;
+  good_at = latest_good_at;
+  holds = λ _ _. ⊥;
+  sparing = false;
+  plain = true;
+}
