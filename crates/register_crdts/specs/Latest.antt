@@ -1,12 +1,14 @@
 -- What a register means that keeps one text: of all sets the one of the greatest key.
-use Rattle.std.specs.Prelude.{ℕ, ◌*◌, ◌<◌, ◌≤◌, List, true, false, if◌then◌else◌, IsTrue, Option, Some, None}
+use Rattle.std.specs.Prelude.{◌≡◌, ◌⊎◌, ℕ, ◌*◌, ◌<◌, ◌≤◌, List, true, false, if◌then◌else◌, IsTrue, Option, Some, None}
+use Rattle.std.specs.List.{Contains}
 use Rattle.serde_json.specs.Data.{Data, null, string}
 use Rattle.vector_clock.specs.declared.clock.Clock.{Clock}
 use Rattle.vector_clock.specs.declared.clock.Id.{Id}
 use Rattle.vector_clock.specs.declared.stamp.Key.{Key}
 use Rattle.vector_clock.specs.declared.stamp.Stamp.{Stamp}
 use Rattle.vector_clock.specs.Clock.{covers}
-use Rattle.vector_clock.specs.Stamp.{is_less, key_of}
+use Rattle.vector_clock.specs.Stamp.{is_below, is_less, key_of}
+use Rattle.crdt_laws.specs.declared.small.Entry.{Entry}
 use Rattle.crdt_laws.specs.Tower.{Meaning, max_seq}
 use Rattle.register_crdts.specs.declared.latest.Set.{Set}
 use Rattle.register_crdts.specs.Text.{IsText, IsTextAt}
@@ -71,3 +73,8 @@ latest_meaning = record {
   sparing = false;
   plain = true;
 }
+
+-- e is one of the sets, and each other one has a lesser key
+pub record IsGreatest (xs : List (Entry (List ℕ))) (e : Entry (List ℕ)) : Type 0 where
+  pub member : Contains xs e
+  pub others : (f : Entry (List ℕ)) → Contains xs f → (f ≡ e) ⊎ IsTrue (is_below f.stamp e.stamp)

@@ -1,5 +1,5 @@
 -- The register of one text is a lawful tower.
-use Rattle.std.specs.Prelude.{◌≡◌, ℕ, zero, suc, ◌+◌, ◌*◌, ◌<◌, ◌≤◌, List, [], ◌∷◌, true, false, IsTrue, Option, Some, None, sum, slice_index}
+use Rattle.std.specs.Prelude.{◌≡◌, ℕ, zero, suc, ◌+◌, ◌*◌, ◌≤◌, List, [], ◌∷◌, true, false, IsTrue, Option, Some, None, sum, slice_index}
 use Rattle.std.proofs.Common.{ap, refl, sym, arith, inl, inr, subst, zero-mul}
 use Rattle.std.proofs.lemmas.Bool.{cases_Bool, cond_both}
 use Rattle.std.proofs.lemmas.Bool.Decides.{nat_tests}
@@ -12,7 +12,6 @@ use Rattle.vector_clock.specs.Stamp.{id_of, is_less, key_of, is_below, same_id}
 use Rattle.vector_clock.proofs.Keys.{key_asym, key_total, concurrent_other}
 use Rattle.crdt_laws.specs.Tower.{IsLawful, IsIssued, IsStampOf, IsWithin, MaySwap, max_seq}
 use Rattle.register_crdts.specs.declared.latest.Set.{Set}
-use Rattle.register_crdts.specs.Text.{IsText}
 use Rattle.register_crdts.specs.Latest.{IsKeyOf, IsSetOf, id_of_key, later, latest_apply, latest_good, latest_good_at, latest_meaning, set_at}
 
 pub less_trans : (j k l : Key) → is_less j k ≡ true → is_less k l ≡ true → is_less j l ≡ true

@@ -1,12 +1,13 @@
 -- What a register means that keeps each text of which no later set knew.
 use Rattle.std.specs.Prelude.{ℕ, List, [], ◌∷◌, Bool, not, true, false, if◌then◌else◌, IsTrue, map}
-use Rattle.std.specs.List.{AllByRecursion, filter}
+use Rattle.std.specs.List.{AllByRecursion, filter, list_all}
 use Rattle.serde_json.specs.Data.{Data, string, array}
 use Rattle.serde_json.specs.View.{items_of}
 use Rattle.vector_clock.specs.declared.clock.Clock.{Clock}
 use Rattle.vector_clock.specs.declared.stamp.Stamp.{Stamp}
 use Rattle.vector_clock.specs.Clock.{IsAtMost, covers}
-use Rattle.vector_clock.specs.Stamp.{id_of, is_below}
+use Rattle.vector_clock.specs.Stamp.{id_of, is_before, is_below}
+use Rattle.crdt_laws.specs.declared.small.Entry.{Entry}
 use Rattle.crdt_laws.specs.Tower.{Meaning, IsStampOf, IsWithin}
 use Rattle.register_crdts.specs.declared.several.Held.{Held}
 use Rattle.register_crdts.specs.Text.{IsText, IsTextAt}
@@ -69,3 +70,11 @@ several_meaning = record {
   sparing = false;
   plain = true;
 }
+
+-- whether no other of the operations knew of e
+abbrev pub is_unseen : List (Entry (List ℕ)) → Entry (List ℕ) → Bool
+is_unseen xs e = list_all (λ f. not (is_before e.stamp f.stamp)) xs
+
+-- the array of the texts of sets
+abbrev pub texts_of : List (Entry (List ℕ)) → Data
+texts_of xs = array (items_of (map (λ e. string e.op) xs))

@@ -1,16 +1,16 @@
 -- The register of several texts is a lawful tower.
-use Rattle.std.specs.Prelude.{◌≡◌, ℕ, ◌≤◌, ◌<◌, List, [], ◌∷◌, Bool, not, true, false, IsTrue, cond}
+use Rattle.std.specs.Prelude.{◌≡◌, ℕ, ◌≤◌, List, [], ◌∷◌, Bool, true, false, IsTrue, cond}
 use Rattle.std.proofs.Common.{ap, refl, sym, ◌∙◌, arith, inl, inr, subst}
 use Rattle.std.proofs.lemmas.Bool.{cases_Bool}
 use Rattle.std.proofs.lemmas.Bool.Decides.{nat_tests}
 use Rattle.std.specs.List.{AllByRecursion, filter}
 use Rattle.vector_clock.specs.declared.clock.Clock.{Clock}
 use Rattle.vector_clock.specs.declared.stamp.Stamp.{Stamp}
-use Rattle.vector_clock.specs.Clock.{IsAtMost, count, covers}
-use Rattle.vector_clock.specs.Stamp.{id_of, is_before, is_below, same_id, are_concurrent}
+use Rattle.vector_clock.specs.Clock.{IsAtMost, count}
+use Rattle.vector_clock.specs.Stamp.{is_before, is_below, same_id, are_concurrent}
 use Rattle.vector_clock.proofs.Keys.{key_asym, key_total, key_trans, concurrent_other, concurrent_sym}
 use Rattle.crdt_laws.specs.Tower.{IsLawful, IsIssued, MaySwap}
-use Rattle.crdt_laws.proofs.Filters.{all-filter, all_weaker, all_both}
+use Rattle.crdt_laws.proofs.Filters.{all-filter, all_weaker}
 use Rattle.register_crdts.specs.declared.several.Held.{Held}
 use Rattle.register_crdts.specs.Several.{AreRising, IsHeldOf, IsKnownTo, IsSeveralOf, held, is_unknown, place_held, several_apply, several_meaning}
 

@@ -1,4 +1,4 @@
-use Rattle.std.proofs.Common.{◌≡◌, ◌≤◌, ◌<◌, ◌-◌, ℕ, length, slice_index_or}
+use Rattle.std.proofs.Common.{◌≡◌, ◌≤◌, ◌-◌, length}
 use Rattle.std.specs.List.{AllWithin}
 use Rattle.vector_clock.specs.Stamp.{is_less, key_of}
 use Rattle.std.specs.Prelude.{true, false}
