@@ -1,13 +1,9 @@
-// A library with one function.
+//! Maps: towers of which each key has a state of one other tower.
 #![tactic(auto)]
 
-ghost use Rattle.std.specs.Prelude.{◌≡◌};
-ghost use Rattle.map_crdt.specs.Echo.{echo_of};
+mod key;
+mod keyed;
+mod laws;
 
-// The `ensures` clause is the contract: what `echo` returns is `echo_of` of its argument, a definition
-// in `specs/Echo.antt`, which a caller's clause can cite too.
-pub fn echo(x: usize) -> usize
-    ensures { result ≡ echo_of x }
-{
-    x
-}
+pub use keyed::{KeyMap, KeyOp, KeyState, Keyed};
+pub use laws::{keyed_is_lawful, keys_stand_apart};
