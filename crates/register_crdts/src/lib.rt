@@ -11,3 +11,6 @@ pub use laws::{
     latest_is_lawful, latest_shows_the_greatest, several_is_lawful, several_shows_the_unseen,
 };
 pub use several::{Held, Several};
+
+#[cfg(test)]
+mod tests;
