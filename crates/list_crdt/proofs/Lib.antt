@@ -1,2 +1,4 @@
 pub mod Next
 pub mod Levels
+pub mod Steps
+pub mod Found

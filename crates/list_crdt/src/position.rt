@@ -1,10 +1,12 @@
-ghost use Rattle.std.specs.Prelude.{◌≡◌};
-ghost use Rattle.std.specs.Ordering.{as_partial_cmp, eq_by_cmp};
-ghost use Rattle.std.specs.Cmp.{eq_by_cmp_equiv, partial_equiv_from_equiv};
+ghost use Rattle.std.specs.Prelude.{◌≡◌, ◌≤◌, ◌<◌, ◌⊎◌, ◌↔◌, IsTrue, IfOk, length};
+ghost use Rattle.std.specs.List.{All};
+ghost use Rattle.list_crdt.specs.Position.{IsPositionOf, NamesOperation, maker, pad};
 
-use crdt_laws::List;
+use crdt_laws::{List, NoMemory};
+use std::alloc::Global;
 use std::cmp::Ordering;
 use std::marker::Model;
+use vector_clock::Id;
 
 /// One step of a position: a digit, and the operation that the step was made for.
 #[derive(Clone, Copy, Debug, PartialEq, Eq, PartialOrd, Ord)]
@@ -22,6 +24,30 @@ impl Step {
         member: 0,
         seq: 0,
     };
+
+    ghost use Rattle.list_crdt.specs.Position.{NamesOperation, pad};
+
+    /// Whether the step names an operation of one of `n` members.
+    fn names_operation(&self, n: u8) -> bool
+        ensures { IsTrue result ↔ NamesOperation n self.now }
+    {
+        let Step { digit, member, seq } = *self;
+        digit >= 1 && member < n && (1..=1_000_000).contains(&seq)
+    }
+
+    /// Whether the step may stand before others: it is a pad, or names an operation of one of `n` members.
+    fn may_lead(&self, n: u8) -> bool
+        ensures { IsTrue result ↔ (self.now ≡ pad) ⊎ NamesOperation n self.now }
+    {
+        *self == Step::PAD || self.names_operation(n)
+    }
+}
+
+/// Whether all of the steps may stand before others.
+fn may_lead(steps: &[Step], n: u8) -> bool
+    ensures { IsTrue result ↔ All (λ s. (s ≡ pad) ⊎ NamesOperation n s) steps.now }
+{
+    steps.iter().all(|s| s.may_lead(n))
 }
 
 /// The place of a character: steps, which contracts see as their list.
@@ -89,5 +115,43 @@ impl Ord for Position {
 
     fn cmp(&self, other: &Position) -> Ordering {
         self.steps.items.cmp(&other.steps.items)
+    }
+}
+
+impl Position {
+    /// Whether this is a position of a document with `n` members: it has 1 to 32 steps, each of which is a pad or names an
+    /// operation of a member, and the last one is no pad.
+    pub fn is_of(&self, n: u8) -> bool
+        ensures { IsTrue result ↔ IsPositionOf n self.now }
+    {
+        let steps = self.steps.items.as_slice();
+        if steps.len() > 32 {
+            return false;
+        }
+        match steps.split_last() {
+            Some((last, before)) => last.names_operation(n) && may_lead(before, n),
+            None => false,
+        }
+    }
+
+    /// The name of the operation that the position was made for, which its last step has.
+    pub fn maker(&self) -> Id
+        requires { 0 < length self.now }
+        ensures { result ≡ maker self.now }
+    {
+        let steps = self.steps.items.as_slice();
+        let Step { member, seq, .. } = steps[steps.len() - 1];
+        Id { member, seq }
+    }
+
+    /// The same position again.
+    pub fn copy(&self, alloc: Global) -> Result<Position, NoMemory>
+        ensures { IfOk result (λ p. p ≡ self.now) }
+    {
+        Ok(Position {
+            steps: List {
+                items: Vec::from_slice(alloc, self.steps.items.as_slice())?,
+            },
+        })
     }
 }

@@ -1,0 +1,122 @@
+-- Texts are a lawful tower.
+use Rattle.std.specs.Prelude.{◌≡◌, ℕ, List, [], ◌∷◌, Some, None, true, false, IsTrue}
+use Rattle.std.proofs.Common.{refl, sym, ap, ◌∙◌, subst, arith, inl, inr}
+use Rattle.std.specs.Char.{IsScalar}
+use Rattle.std.specs.List.{All}
+use Rattle.std.proofs.lemmas.List.Elements.{All-nil, All-weaker}
+use Rattle.std.proofs.lemmas.Bool.{false≢true}
+use Rattle.std.proofs.lemmas.Bool.Decides.{nat_tests}
+use Rattle.vector_clock.specs.declared.clock.Clock.{Clock}
+use Rattle.vector_clock.specs.declared.stamp.Stamp.{Stamp}
+use Rattle.vector_clock.specs.Clock.{IsAtMost, covers}
+use Rattle.vector_clock.specs.Stamp.{id_of, are_concurrent, is_before}
+use Rattle.vector_clock.proofs.Keys.{concurrent_other, concurrent_sym, other_names}
+use Rattle.crdt_laws.specs.Tower.{IsLawful, IsIssued, IsWithin, MaySwap}
+use Rattle.list_crdt.specs.declared.position.Step.{Step}
+use Rattle.list_crdt.specs.declared.text.Cell.{Cell}
+use Rattle.list_crdt.specs.declared.text.TextOp.{TextOp}
+use Rattle.list_crdt.specs.declared.text.TextOp.TheVariants.{Insert, Delete}
+use Rattle.list_crdt.specs.Position.{AreSteps, HasDigit, IsPosition, IsPositionOf, NamesOperation, maker}
+use Rattle.list_crdt.specs.Text.{IsCellOf, IsDeleteOf, IsEdit, IsEditOf, IsInsertOf, IsText, IsTextAt, edited, text_meaning}
+use Rattle.list_crdt.specs.Around.{all-with_at, any_order, deletes_swap, rising-with_at}
+
+-- a position of a document is a position
+steps_weaker : (P Q : Step → Type 0) → ((s : Step) → P s → Q s) → (p : List Step) → AreSteps P p → AreSteps Q p
+steps_weaker P Q f [] h = h
+steps_weaker P Q f (s ∷ []) h = f s h
+steps_weaker P Q f (s ∷ t ∷ p) h = (elim h.0 [ inl e ↦ inl e | inr k ↦ inr (f s k) ], steps_weaker P Q f (t ∷ p) h.1)
+
+any_position : (n : ℕ) (p : List Step) → IsPositionOf n p → IsPosition p
+any_position n p h = record { steps = steps_weaker (NamesOperation n) HasDigit (λ s k. k.digit) p h.steps; most = h.most }
+
+valid_within : (p : Stamp) (x : TextOp) → IsEditOf p x → IsWithin p
+valid_within p (Insert at ch) h = h.within
+valid_within p (Delete at) h = h.within
+
+well_formed : (p : Stamp) (x : TextOp) → IsEditOf p x → IsEdit x
+well_formed p (Insert at ch) h = (any_position p.clock.n at h.position, h.char)
+well_formed p (Delete at) h = any_position p.clock.n at h.position
+
+-- of two concurrent operations neither knows the other
+not_known : (p q : Stamp) → are_concurrent p q ≡ true → covers q.clock (id_of p) ≡ false
+unfolding are_concurrent is_before
+not_known p q h = let d = concurrent_other p q h in grind arith
+
+-- an insert is not at the position of a concurrent insert or delete
+other_insert : (p q : Stamp) (at as' : List Step) (ch ch' : ℕ) → are_concurrent p q ≡ true → IsInsertOf p at ch → IsInsertOf q as' ch' → at ≡ as' → ⊥
+other_insert p q at as' ch ch' c h k e = other_names p q (concurrent_other p q c) (sym k.own ∙ sym (ap maker e) ∙ h.own)
+
+other_delete : (p q : Stamp) (at as' : List Step) (ch : ℕ) → are_concurrent p q ≡ true → IsInsertOf p at ch → IsDeleteOf q as' → at ≡ as' → ⊥
+other_delete p q at as' ch c h k e =
+    let named : maker as' ≡ id_of p = sym (ap maker e) ∙ h.own in
+    false≢true (sym (not_known p q c) ∙ sym (ap (λ i. covers q.clock i) named) ∙ k.known)
+
+some_same : (c d : ℕ) → Some c ≡ Some d → c ≡ d
+some_same c d e = cc
+
+no_char : (c : ℕ) → None ≡ Some c → ⊥
+no_char c e = cc
+
+commute : (n : ℕ) (s : List Cell) (p q : Stamp) (x y : TextOp) → MaySwap text_meaning n s p q → IsIssued text_meaning n p x → IsIssued text_meaning n q y
+    → edited (edited s x) y ≡ edited (edited s y) x
+commute n s p q (Insert a c) (Insert b d) w h k = any_order a b (Some c) (Some d) s (other_insert p q a b c d w.concurrent h.valid k.valid)
+commute n s p q (Insert a c) (Delete b) w h k = any_order a b (Some c) None s (other_delete p q a b c w.concurrent h.valid k.valid)
+commute n s p q (Delete a) (Insert b d) w h k =
+    sym (any_order b a (Some d) None s (other_delete q p b a d (concurrent_sym p q w.concurrent) k.valid h.valid))
+commute n s p q (Delete a) (Delete b) w h k = deletes_swap a b s
+
+-- each edit keeps a text
+
+edited_text : (n : ℕ) (s : List Cell) (p : Stamp) (x : TextOp) → IsText n s → p.clock.n ≡ n → IsEditOf p x → IsText n (edited s x)
+edited_text n s p (Insert at ch) t e h = record {
+  rising = rising-with_at at s (Some ch) t.rising;
+  cells = all-with_at (IsCellOf n) at (Some ch) (λ c k. record { position = subst (λ m. IsPositionOf m at) e h.position; char = subst IsScalar (some_same ch c k) h.char }) s t.cells;
+}
+edited_text n s p (Delete at) t e h = record {
+  rising = rising-with_at at s None t.rising;
+  cells = all-with_at (IsCellOf n) at None (λ c k. absurd (no_char c k)) s t.cells;
+}
+
+edited_known : (d : Clock) (s : List Cell) (p : Stamp) (x : TextOp) → IsTextAt d s → IsEditOf p x → IsTrue (covers d (id_of p)) → All (λ c. IsTrue (covers d (maker c.at))) (edited s x)
+edited_known d s p (Insert at ch) t h k = all-with_at (λ c. IsTrue (covers d (maker c.at))) at (Some ch) (λ c e. ap (covers d) h.own ∙ k) s t.known
+edited_known d s p (Delete at) t h k = all-with_at (λ c. IsTrue (covers d (maker c.at))) at None (λ c e. absurd (no_char c e)) s t.known
+
+-- a later clock covers what an earlier one covers
+later : (d e : Clock) (c : Cell) → IsAtMost d e → IsTrue (covers d (maker c.at)) → IsTrue (covers e (maker c.at))
+later d e c h k = let m = h.each (maker c.at).member in grind (arith, nat_tests)
+
+no_text : (n : ℕ) → IsText n []
+no_text n = record { rising = λ i j d l m. absurd (omega (arith, m)); cells = All-nil (IsCellOf n) }
+
+pub text_lawful : IsLawful text_meaning
+text_lawful = record {
+  valid_within = valid_within;
+  valid_well_formed = well_formed;
+  level_low = λ x _. omega arith;
+  level_top = λ x _. omega arith;
+  level-act = λ y x _ _. refl;
+  act_below = λ y x _ _ _. refl;
+  well_formed-act = λ y x _ h. h;
+  valid-act = λ p y x _ _ h. h;
+  commute = λ n s p q x y w h k _. commute n s p q x y w h k;
+  exchange = λ n s p q x y _ _ _ h. absurd (omega (arith, h));
+  act-act = λ y v x _ _ _ _. refl;
+  distribute = λ z y x _ _ _ h _. absurd (omega (arith, h));
+  settle-apply = λ n s k p x _ _ _ _ _. refl;
+  settle-settle = λ n s k l _ _ _ _. refl;
+  settle-init = λ k. refl;
+  show-settle = λ n s k _. refl;
+  good-init = no_text;
+  good-apply = λ n s p x t h _. edited_text n s p x t h.stamp.members h.valid;
+  good-settle = λ n s k h. h;
+  good_at_good = λ d s h. h.text;
+  good_at-init = λ d. record { text = no_text d.n; known = All-nil (λ (c : Cell). IsTrue (covers d (maker c.at))) };
+  good_at_later = λ d e s same h t. record { text = subst (λ n. IsText n s) same t.text; known = All-weaker _ (λ (c : Cell). IsTrue (covers e (maker c.at))) (λ c k. later d e c h k) s t.known };
+  good_at-apply = λ d s p x t h _ _ k. record { text = edited_text d.n s p x t.text h.stamp.members h.valid; known = edited_known d s p x t h.valid k };
+  good_at-settle = λ d s k h. h;
+  holds-init = λ p h. h;
+  holds-apply = λ s p x q h. inr h;
+  holds-settle = λ s k q h. h;
+  plain_settle = λ s k _. refl;
+  plain_holds = λ s p _ h. h;
+}
