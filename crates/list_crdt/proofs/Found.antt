@@ -52,7 +52,7 @@ module _ {X : Type 0} (test : X → Bool) where
       ∙ filter-drop xs i (λ k d h l. fails (suc k) d (omega (arith, h)) (omega (arith, l))) (λ k d h l. passes (suc k) d (omega (arith, h)) (omega (arith, l)))
 
 module _ (p : List Step) (s : List Cell) (rising : IsRising s) where
-  abbrev order : Cell → Ordering
+  abbrev pub order : Cell → Ordering
   order c = position_cmp c.at p
 
   -- the tests in one comparison
@@ -99,7 +99,7 @@ module _ (p : List Step) (s : List Cell) (rising : IsRising s) where
         | inr ge ↦ (let same : i ≡ j = omega (arith, ge, h) in let e = ap (λ k. ordering_index (order (get_or s k d))) same in omega arith)
       ]
 
-  standing : (i : ℕ) → i < length s → HoldsAt (λ (c : Cell). order c ≡ Equal) s i → IsStandingAt p s i
+  pub standing : (i : ℕ) → i < length s → HoldsAt (λ (c : Cell). order c ≡ Equal) s i → IsStandingAt p s i
   standing i within here = record {
     within = within;
     here = λ d. same_position (get_or s i d).at p (here d);
@@ -116,7 +116,7 @@ module _ (p : List Step) (s : List Cell) (rising : IsRising s) where
         (λ k d h l. greater_after (get_or s i d) (get_or s k d) (rising i k d (omega (arith, h)) l) (here d));
   }
 
-  gap : (i : ℕ) → i ≤ length s → AllWithin (λ (c : Cell). order c ≡ Less) s 0 i → AllWithin (λ (c : Cell). order c ≡ Greater) s i (length s) → IsGapAt p s i
+  pub gap : (i : ℕ) → i ≤ length s → AllWithin (λ (c : Cell). order c ≡ Less) s 0 i → AllWithin (λ (c : Cell). order c ≡ Greater) s i (length s) → IsGapAt p s i
   gap i within low high = record {
     within = within;
     front = front_is i (λ k d h l. low k d (omega arith) h) (λ k d h l. ap is_lt (high k d h l));

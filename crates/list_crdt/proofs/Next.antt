@@ -234,3 +234,13 @@ module _ (member seq : ℕ) (p q : Option (List Step)) where
 
     pub made_position_of : length r ≤ 32 → (n : ℕ) → IfSome p (IsPositionOf n) → IfSome q (IsPositionOf n) → MayName n member seq → IsPositionOf n r
     made_position_of short n h k own = record { steps = rw is (names_operations n h k own); most = short }
+
+pub maker_between : (member seq : ℕ) (p q : Option (List Step)) → maker (position_between member seq p q) ≡ record { member = member; seq = seq }
+maker_between member seq p q = maker-next member seq (steps_of p) (steps_of q)
+
+-- positions that were made for different operations differ
+pub different_makers : (m n s t : ℕ) (p q u v : Option (List Step)) → (m ≡ n → s ≡ t → ⊥) → position_between m s p q ≡ position_between n t u v → ⊥
+different_makers m n s t p q u v d e =
+    let one : maker (position_between m s p q) ≡ maker (position_between n t u v) = ap maker e in
+    let same = sym (maker_between m s p q) ∙ one ∙ maker_between n t u v in
+    d (ap (λ i. i.member) same) (ap (λ i. i.seq) same)

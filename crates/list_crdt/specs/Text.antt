@@ -1,6 +1,7 @@
 -- Texts: characters by rising position. A character is a Unicode scalar value.
-use Rattle.std.specs.Prelude.{◌≡◌, ℕ, List, [], ◌∷◌, ◌++◌, map, Option, None, Some, IsTrue, encode_utf8_all, true, false}
+use Rattle.std.specs.Prelude.{◌≡◌, ℕ, zero, suc, List, [], ◌∷◌, ◌++◌, map, Option, None, Some, IsTrue, encode_utf8_all, slice_get, true, false}
 use Rattle.std.specs.Char.{IsScalar}
+use Rattle.std.specs.Option.{option_map}
 use Rattle.std.specs.List.{All, AllPairs, filter}
 use Rattle.std.specs.Ordering.{is_lt}
 use Rattle.serde_json.specs.Data.{string}
@@ -35,6 +36,14 @@ with_at p o s = before p s ++ (cells_at p o ++ after p s)
 abbrev pub edited : List Cell → TextOp → List Cell
 edited s (Insert p ch) = with_at p (Some ch) s
 edited s (Delete p) = with_at p None s
+
+-- the position of the character at the index, and that of the one before it
+abbrev pub place : List Cell → ℕ → Option (List Step)
+place s i = option_map (λ c. c.at) (slice_get s i)
+
+abbrev pub place_before : List Cell → ℕ → Option (List Step)
+place_before s zero = None
+place_before s (suc i) = place s i
 
 -- each character comes before all later ones
 abbrev pub IsRising : List Cell → Type 0

@@ -7,6 +7,7 @@ use Rattle.std.proofs.lemmas.List.Elements.{All-nil, All-weaker}
 use Rattle.std.proofs.lemmas.Bool.{false≢true}
 use Rattle.std.proofs.lemmas.Bool.Decides.{nat_tests}
 use Rattle.vector_clock.specs.declared.clock.Clock.{Clock}
+use Rattle.vector_clock.specs.declared.clock.Id.{Id}
 use Rattle.vector_clock.specs.declared.stamp.Stamp.{Stamp}
 use Rattle.vector_clock.specs.Clock.{IsAtMost, covers}
 use Rattle.vector_clock.specs.Stamp.{id_of, are_concurrent, is_before}
@@ -26,7 +27,7 @@ steps_weaker P Q f [] h = h
 steps_weaker P Q f (s ∷ []) h = f s h
 steps_weaker P Q f (s ∷ t ∷ p) h = (elim h.0 [ inl e ↦ inl e | inr k ↦ inr (f s k) ], steps_weaker P Q f (t ∷ p) h.1)
 
-any_position : (n : ℕ) (p : List Step) → IsPositionOf n p → IsPosition p
+pub any_position : (n : ℕ) (p : List Step) → IsPositionOf n p → IsPosition p
 any_position n p h = record { steps = steps_weaker (NamesOperation n) HasDigit (λ s k. k.digit) p h.steps; most = h.most }
 
 valid_within : (p : Stamp) (x : TextOp) → IsEditOf p x → IsWithin p
@@ -82,8 +83,8 @@ edited_known d s p (Insert at ch) t h k = all-with_at (λ c. IsTrue (covers d (m
 edited_known d s p (Delete at) t h k = all-with_at (λ c. IsTrue (covers d (maker c.at))) at None (λ c e. absurd (no_char c e)) s t.known
 
 -- a later clock covers what an earlier one covers
-later : (d e : Clock) (c : Cell) → IsAtMost d e → IsTrue (covers d (maker c.at)) → IsTrue (covers e (maker c.at))
-later d e c h k = let m = h.each (maker c.at).member in grind (arith, nat_tests)
+pub covers_later : (d e : Clock) (i : Id) → IsAtMost d e → IsTrue (covers d i) → IsTrue (covers e i)
+covers_later d e i h k = let m = h.each i.member in grind (arith, nat_tests)
 
 no_text : (n : ℕ) → IsText n []
 no_text n = record { rising = λ i j d l m. absurd (omega (arith, m)); cells = All-nil (IsCellOf n) }
@@ -111,7 +112,7 @@ text_lawful = record {
   good-settle = λ n s k h. h;
   good_at_good = λ d s h. h.text;
   good_at-init = λ d. record { text = no_text d.n; known = All-nil (λ (c : Cell). IsTrue (covers d (maker c.at))) };
-  good_at_later = λ d e s same h t. record { text = subst (λ n. IsText n s) same t.text; known = All-weaker _ (λ (c : Cell). IsTrue (covers e (maker c.at))) (λ c k. later d e c h k) s t.known };
+  good_at_later = λ d e s same h t. record { text = subst (λ n. IsText n s) same t.text; known = All-weaker _ (λ (c : Cell). IsTrue (covers e (maker c.at))) (λ c k. covers_later d e (maker c.at) h k) s t.known };
   good_at-apply = λ d s p x t h _ _ k. record { text = edited_text d.n s p x t.text h.stamp.members h.valid; known = edited_known d s p x t h.valid k };
   good_at-settle = λ d s k h. h;
   holds-init = λ p h. h;

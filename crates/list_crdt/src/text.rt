@@ -1,5 +1,5 @@
-ghost use Rattle.std.specs.Prelude.{◌≡◌, ◌+◌, ◌≤◌, ◌<◌, ◌↔◌, IsNone, IsTrue, IfErr, IfOk, IfSome, length, slice_get, take};
-ghost use Rattle.std.specs.Option.{option_copied, option_map};
+ghost use Rattle.std.specs.Prelude.{◌≡◌, ◌≤◌, ◌↔◌, IsNone, IsTrue, IfOk, length};
+ghost use Rattle.std.specs.Option.{option_copied};
 ghost use Rattle.vector_clock.specs.Stamp.{IsStamp};
 ghost use Rattle.crdt_laws.specs.Tower.{IsWithin};
 ghost use Rattle.list_crdt.specs.Position.{IsPositionOf};
@@ -151,9 +151,13 @@ impl Tower for Text {
 }
 
 impl Text {
+    ghost use Rattle.std.specs.Prelude.{◌≡◌, ◌≤◌, ◌↔◌, IsNone, length};
+    ghost use Rattle.std.specs.Option.{option_copied};
+    ghost use Rattle.list_crdt.specs.Text.{place};
+
     /// The position of the character at this index, counted from 0, or None past the last one.
     pub fn place<'a>(&self, state: &'a TextState, index: u32) -> Option<&'a Position>
-        ensures place { option_copied result ≡ option_map (λ c. c.at) (slice_get state.now index) }
+        ensures place { option_copied result ≡ place state.now index }
         ensures none { IsNone result ↔ (length state.now ≤ index) }
     {
         Some(&state.items.get(index as usize)?.at)
