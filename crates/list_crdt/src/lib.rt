@@ -11,3 +11,6 @@ pub use gap::{ListError, between};
 pub use laws::{edits_by_index, next_positions, position_order, text_is_lawful, valid_edits};
 pub use position::{Position, Step};
 pub use text::{Cell, Text, TextOp, TextState};
+
+#[cfg(test)]
+mod tests;

@@ -1,6 +1,6 @@
 ghost use Rattle.std.specs.Prelude.{◌≡◌, ◌≤◌, ◌<◌, ◌⊎◌, ◌↔◌, IsTrue, IfOk, length};
 ghost use Rattle.std.specs.List.{All};
-ghost use Rattle.list_crdt.specs.Position.{IsPositionOf, NamesOperation, maker, pad};
+ghost use Rattle.list_crdt.specs.Position.{IsPosition, IsPositionOf, NamesOperation, maker, pad};
 
 use crdt_laws::{List, NoMemory};
 use std::alloc::Global;
@@ -122,7 +122,8 @@ impl Position {
     /// Whether this is a position of a document with `n` members: it has 1 to 32 steps, each of which is a pad or names an
     /// operation of a member, and the last one is no pad.
     pub fn is_of(&self, n: u8) -> bool
-        ensures { IsTrue result ↔ IsPositionOf n self.now }
+        ensures of { IsTrue result ↔ IsPositionOf n self.now }
+        ensures position { IsTrue result → IsPosition self.now }
     {
         let steps = self.steps.items.as_slice();
         if steps.len() > 32 {
