@@ -44,8 +44,8 @@ fn acted_at_level<T: Tower>(
     Ok(form)
 }
 
-/// The form in which the operation is applied, where these are the forms of all before it.
-fn present_form<T: Tower>(
+/// The form in which the operation is applied, where these are the forms of those before it. Only want of memory is refused.
+pub fn present_form<T: Tower>(
     alloc: Global,
     tower: &T,
     forms: &[Entry<T::Op>],
@@ -67,8 +67,8 @@ fn present_form<T: Tower>(
     Ok(form)
 }
 
-/// The forms, acted on by one more.
-fn acted_forms<T: Tower>(
+/// The forms, acted on by one more. Only want of memory is refused.
+pub fn acted_forms<T: Tower>(
     alloc: Global,
     tower: &T,
     forms: &[Entry<T::Op>],
