@@ -68,7 +68,7 @@ apart-append [] ys h k o = k
 apart-append (a ∷ xs) ys h k o =
     (all-append (λ b. same_id a.stamp b.stamp ≡ false) xs ys h.0 (o a (Contains-front a xs)), apart-append xs ys h.1 k (λ e c. o e (Contains-more a xs e c)))
 
-apart-filter : {Op : Type 0} (p : Entry Op → Bool) (xs : List (Entry Op)) → AreApart xs → AreApart (filter p xs)
+pub apart-filter : {Op : Type 0} (p : Entry Op → Bool) (xs : List (Entry Op)) → AreApart xs → AreApart (filter p xs)
 apart-filter p [] h = tt
 apart-filter p (a ∷ xs) h =
     let rest : AreApart (filter p xs) = apart-filter p xs h.1 in

@@ -56,7 +56,7 @@ module _ {State Op : Type 0} (t : Meaning State Op) (law : IsLawful t) where
   form_is : (es : List (Entry Op)) (x : Entry Op) → present t es x ≡ entry x.stamp (present t es x).op
   form_is es x = ap (λ p. entry p (present t es x).op) (present-stamp t es x)
 
-  next_issued : (n : ℕ) (es : List (Entry Op)) (x : Entry Op) → AllByRecursion (λ e. IsIssued t n e.stamp e.op) es → IsIssued t n x.stamp x.op → AllByRecursion (λ e. IsIssued t n e.stamp e.op) (with_next t es x)
+  pub next_issued : (n : ℕ) (es : List (Entry Op)) (x : Entry Op) → AllByRecursion (λ e. IsIssued t n e.stamp e.op) es → IsIssued t n x.stamp x.op → AllByRecursion (λ e. IsIssued t n e.stamp e.op) (with_next t es x)
   unfolding with_next
   next_issued n es x h v =
       let w = Forms.present-issued t n law es x h v in

@@ -18,7 +18,7 @@ before_from : (a b c : Stamp) → covers c.clock (id_of a) ≡ true → covers b
 unfolding is_before same_id
 before_from a b c h k l = grind (arith, nat_tests)
 
-covers_past : (j k : Clock) (a : Stamp) → IsAtMost j k → covers j (id_of a) ≡ true → covers k (id_of a) ≡ true
+pub covers_past : (j k : Clock) (a : Stamp) → IsAtMost j k → covers j (id_of a) ≡ true → covers k (id_of a) ≡ true
 covers_past j k a h c = let m : count j a.member ≤ count k a.member = h.each a.member in grind (arith, nat_tests)
 
 -- b comes after a, and c after b

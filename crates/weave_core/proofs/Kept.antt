@@ -7,29 +7,19 @@ use Rattle.crdt_laws.specs.Present.{acted, acted_by, acting, acts_at, present, w
 use Rattle.crdt_laws.specs.Tower.{Meaning, IsIssued, IsLawful}
 use Rattle.crdt_laws.proofs.Acts
 use Rattle.crdt_laws.proofs.Forms
+use Rattle.std.proofs.lemmas.List.Elements.{filter-append}
 use Rattle.weave_core.specs.Deliver.{is_high, kept_with}
+use Rattle.weave_core.proofs.Placed.{filter_twice}
 
 acts_at-high : {State Op : Type 0} (t : Meaning State Op) (l : ℕ) (x e : Entry Op) → 1 ≤ t.level x.op → acts_at t l x e ≡ true → is_high t e ≡ true
 unfolding acts_at
 acts_at-high t l x e low h = grind (arith, nat_tests)
 
--- what passes the first test passes the second
-filter_weaker : {X : Type 0} (p q : X → Bool) → ((x : X) → p x ≡ true → q x ≡ true) → (l : List X) → filter p (filter q l) ≡ filter p l
-filter_weaker p q h [] = refl
-filter_weaker p q h (a ∷ l) =
-    let ih : filter p (filter q l) ≡ filter p l = filter_weaker p q h l in
-    let imp : (p a ≡ true → q a ≡ true) = h a in
-    grind (arith, ih)
-
-filter-append : {X : Type 0} (p : X → Bool) (l m : List X) → filter p (l ++ m) ≡ filter p l ++ filter p m
-filter-append p [] m = refl
-filter-append p (a ∷ l) m = let ih : filter p (l ++ m) ≡ filter p l ++ filter p m = filter-append p l m in grind (arith, ih)
-
 acting-kept : {State Op : Type 0} (t : Meaning State Op) (fs : List (Entry Op)) (x : Entry Op) → 1 ≤ t.level x.op → (l : ℕ) → acting t l (filter (is_high t) fs) x ≡ acting t l fs x
 acting-kept t fs x low zero = refl
 acting-kept {Op = Op} t fs x low (suc l) =
     ap₂ (λ (a b : List (Entry Op)). a ++ b)
-    (filter_weaker (acts_at t (suc l) x) (is_high t) (λ e h. acts_at-high t (suc l) x e low h) fs)
+    (filter_twice (acts_at t (suc l) x) (is_high t) (λ e h. acts_at-high t (suc l) x e low h) fs)
     (acting-kept t fs x low l)
 
 pub present-kept : {State Op : Type 0} (t : Meaning State Op) (fs : List (Entry Op)) (x : Entry Op) → 1 ≤ t.level x.op → present t (filter (is_high t) fs) x ≡ present t fs x

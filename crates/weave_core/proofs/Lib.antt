@@ -1,3 +1,6 @@
+pub mod Placed
 pub mod Kept
 pub mod FoldPlain
 pub mod Split
+pub mod Runs
+pub mod Loops

@@ -1,5 +1,6 @@
 -- Operations that come after all of some others do not change with these.
 use Rattle.std.proofs.Common.{◌≡◌, ℕ, zero, suc, true, false, List, [], ◌∷◌, ◌++◌, refl, ap, ap₂, sym, ◌∙◌, subst, arith, map, fold, append_assoc}
+use Rattle.std.proofs.lemmas.List.{append-nil, map-append}
 use Rattle.std.specs.List.{AllByRecursion, filter}
 use Rattle.vector_clock.specs.declared.stamp.Stamp.{Stamp}
 use Rattle.vector_clock.specs.Stamp.{are_concurrent, is_before}
@@ -37,16 +38,12 @@ module _ {State Op : Type 0} (t : Meaning State Op) where
   unfolding present
   present_known y es fs h = ap (λ l. acted_by t l y) (acting_known y es fs h t.top)
 
-  map-append_lem : (f : Entry Op → Entry Op) (l m : List (Entry Op)) → map f (l ++ m) ≡ map f l ++ map f m
-  map-append_lem f [] m = refl
-  map-append_lem f (a ∷ l) m = ap (λ (k : List (Entry Op)). f a ∷ k) (map-append_lem f l m)
-
   with_next_known : (y : Entry Op) (es fs : List (Entry Op)) → AreKnown es y → with_next t (es ++ fs) y ≡ map (acted t (present t fs y)) es ++ with_next t fs y
   unfolding with_next
   with_next_known y es fs h =
       let z = present t fs y in
       ap (λ x. map (acted t x) (es ++ fs) ++ x ∷ []) (present_known y es fs h)
-      ∙ ap (λ l. l ++ z ∷ []) (map-append_lem (acted t z) es fs)
+      ∙ ap (λ l. l ++ z ∷ []) (map-append (acted t z) es fs)
       ∙ append_assoc (map (acted t z) es) (map (acted t z) fs) (z ∷ [])
 
   known_acted : (x y : Entry Op) (es : List (Entry Op)) → AreKnown es y → AreKnown (map (acted t x) es) y
@@ -93,11 +90,7 @@ module _ {State Op : Type 0} (t : Meaning State Op) where
       ap (apply_all t s) (own_forms-append xs ys [])
       ∙ apply_all-append s (own_forms t [] xs) (own_forms t (forms t xs) ys)
       ∙ ap (apply_all t (document_from t s xs))
-          (ap (λ l. own_forms t l ys) (append_nil (forms t xs)) ∙ own_forms_known ys (forms t xs) [] (forms_known xs ys h))
-    where
-      append_nil : (l : List (Entry Op)) → l ≡ l ++ []
-      append_nil [] = refl
-      append_nil (a ∷ l) = ap (λ (k : List (Entry Op)). a ∷ k) (append_nil l)
+          (ap (λ l. own_forms t l ys) (sym (append-nil (forms t xs))) ∙ own_forms_known ys (forms t xs) [] (forms_known xs ys h))
 
 -- each of xs is before each of ys
 abbrev pub AreBefore : {Op : Type 0} → List (Entry Op) → List (Entry Op) → Type 0

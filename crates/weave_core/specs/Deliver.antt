@@ -1,11 +1,17 @@
 -- Operations as they are applied one after another, and which of them are kept.
-use Rattle.std.specs.Prelude.{ℕ, List, [], ◌∷◌, ◌++◌, map, Bool, nat_le, if◌then◌else◌}
+use Rattle.std.specs.Prelude.{ℕ, List, [], ◌∷◌, ◌++◌, map, Bool, not, nat_le, if◌then◌else◌}
 use Rattle.std.specs.List.{All}
+use Rattle.vector_clock.specs.declared.clock.Clock.{Clock}
+use Rattle.vector_clock.specs.Clock.{covers}
 use Rattle.vector_clock.specs.Stamp.{id_of}
 use Rattle.crdt_laws.specs.declared.small.Entry.{Entry}
 use Rattle.crdt_laws.specs.Present.{acted, present}
 use Rattle.crdt_laws.specs.Sets.{AreApart, AreIssued, IsRising}
 use Rattle.crdt_laws.specs.Tower.{Meaning, Lacks}
+
+-- whether the clock does not cover the operation
+abbrev pub is_outside : {Op : Type 0} → Clock → Entry Op → Bool
+is_outside k e = not (covers k (id_of e.stamp))
 
 module _ {State Op : Type 0} (m : Meaning State Op) where
   -- whether the operation can act on others

@@ -1,6 +1,8 @@
-//! What operations leave over any tower.
+//! What operations leave over any tower, in canonical order and from any state, and lists of operations by key.
 #![tactic(auto)]
 
 mod fold;
+mod parts;
 
 pub use fold::fold_plain;
+pub use parts::{outside, place_in};
