@@ -1,0 +1,11 @@
+//! Resets of towers: the winning reset, over which nothing survives that it did not know of, and the observed reset, which forgets
+//! what it knew of and nothing else.
+#![tactic(auto)]
+
+mod cut;
+mod observed;
+mod wins;
+
+pub use cut::clean_cut;
+pub use observed::{Observed, ObservedOp, ObservedState};
+pub use wins::{Winning, winning};
