@@ -1,15 +1,47 @@
 -- What holds where the program settles a state, and shows one.
-use Rattle.std.proofs.Common.{◌≡◌, ℕ, ◌≤◌, List, IsTrue, sym, subst, length, take}
+use Rattle.std.proofs.Common.{◌≡◌, ℕ, ◌≤◌, true, List, [], ◌∷◌, IsTrue, sym, subst, length, take, drop}
+use Rattle.std.specs.List.{All, AllByRecursion}
+use Rattle.vector_clock.specs.Clock.{covers}
+use Rattle.vector_clock.specs.Stamp.{id_of, is_before}
 use Rattle.std.proofs.lemmas.List.Elements.{All-from_recursion, recursion_from_All}
 use Rattle.vector_clock.specs.declared.clock.Clock.{Clock}
 use Rattle.crdt_laws.specs.declared.small.Entry.{Entry}
 use Rattle.crdt_laws.specs.Tower.{Meaning, IsIssued, IsLawful, IsState}
 use Rattle.weave_core.specs.Deliver.{IsRun}
 use Rattle.weave_core.proofs.Placed.{all_take, apart-take, rising-take}
-use Rattle.reset_products.specs.Cut.{clean_cut}
-use Rattle.reset_products.specs.CutLaws.{cut_within}
+use Rattle.crdt_laws.proofs.Filters.{all_weaker}
+use Rattle.reset_products.specs.Cut.{IsCleanPrefix, clean_cut, is_clean_prefix}
+use Rattle.reset_products.specs.CutLaws.{IsClean, clean_from, clean_to, cut_clean, cut_within}
 use Rattle.reset_products.specs.Observed.{IsGoodLog, Logged, value_of}
 use Rattle.reset_products.specs.ObservedLaws.{value_good}
+
+-- a clean prefix as a fact
+
+fact_of : {Op : Type 0} (k : Clock) (log : List (Entry Op)) (n : ℕ) → IsClean k (take n log) (drop n log) → IsCleanPrefix k log n
+fact_of {Op} k log n h =
+    let C : Entry Op → Type 0 = λ x. covers k (id_of x.stamp) ≡ true in
+    let B : Entry Op → Type 0 = λ x. AllByRecursion (λ (y : Entry Op). is_before x.stamp y.stamp ≡ true) (drop n log) in
+    let A : Entry Op → Type 0 = λ x. All (λ (y : Entry Op). is_before x.stamp y.stamp ≡ true) (drop n log) in
+    record {
+      covered = All-from_recursion C (take n log) (all_weaker (λ x. C x × B x) C (λ x e. e.0) (take n log) h);
+      before = All-from_recursion A (take n log) (all_weaker (λ x. C x × B x) A (λ x e. All-from_recursion (λ (y : Entry Op). is_before x.stamp y.stamp ≡ true) (drop n log) e.1) (take n log) h);
+    }
+
+pub prefix_from : {Op : Type 0} (k : Clock) (log : List (Entry Op)) (n : ℕ) → is_clean_prefix k log n ≡ true → IsCleanPrefix k log n
+prefix_from k log n h = fact_of k log n (clean_from k (take n log) (drop n log) h)
+
+pub cut_is_clean : {Op : Type 0} (k : Clock) (log : List (Entry Op)) → IsCleanPrefix k log (clean_cut log k)
+cut_is_clean k log = fact_of k log (clean_cut log k) (cut_clean log k)
+
+pub prefix_to : {Op : Type 0} (k : Clock) (log : List (Entry Op)) (n : ℕ) → IsCleanPrefix k log n → is_clean_prefix k log n ≡ true
+prefix_to {Op} k log n h =
+    let C : Entry Op → Type 0 = λ x. covers k (id_of x.stamp) ≡ true in
+    let A : Entry Op → Type 0 = λ x. All (λ (y : Entry Op). is_before x.stamp y.stamp ≡ true) (drop n log) in
+    clean_to k (take n log) (drop n log) (both (take n log) (recursion_from_All C (take n log) h.covered) (recursion_from_All A (take n log) h.before))
+  where
+    both : (l : List (Entry Op)) → AllByRecursion (λ x. covers k (id_of x.stamp) ≡ true) l → AllByRecursion (λ x. All (λ (y : Entry Op). is_before x.stamp y.stamp ≡ true) (drop n log)) l → IsClean k l (drop n log)
+    both [] c a = tt
+    both (x ∷ l) c a = ((c.0, recursion_from_All (λ (y : Entry Op). is_before x.stamp y.stamp ≡ true) (drop n log) a.0), both l c.1 a.1)
 
 pub cut_fits : {Op : Type 0} (l : List (Entry Op)) (k : Clock) (c v : ℕ) → c ≡ clean_cut l k → v ≡ length l → c ≤ v
 cut_fits l k c v e f = subst (λ n. n ≤ v) (sym e) (subst (λ n. clean_cut l k ≤ n) (sym f) (cut_within l k))

@@ -2,3 +2,4 @@ pub mod Cut
 pub mod CutLaws
 pub mod Observed
 pub mod ObservedLaws
+pub mod Forgotten

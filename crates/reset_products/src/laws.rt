@@ -1,0 +1,31 @@
+//! What the resets keep. Each law is the contract of a function that does nothing.
+ghost use Rattle.std.specs.Prelude.{◌≡◌, ◌≤◌, ◌↔◌, ℕ, List, length, IsTrue};
+ghost use Rattle.vector_clock.specs.declared.clock.Clock.{Clock};
+ghost use Rattle.crdt_laws.specs.declared.small.Entry.{Entry};
+ghost use Rattle.crdt_laws.specs.Present.{apply_all, document};
+ghost use Rattle.crdt_laws.specs.Sets.{AreApart, IsCausal, canonical};
+ghost use Rattle.reset_products.specs.Cut.{IsCleanPrefix, clean_cut, is_clean_prefix};
+ghost use Rattle.reset_products.specs.Observed.{Logged, observed_meaning, observed_settle, value_of};
+ghost use Rattle.reset_products.specs.Forgotten.{unforgotten};
+ghost use Rattle.reset_products.specs.declared.observed.ObservedOp.{ObservedOp};
+
+use crdt_laws::Tower;
+
+/// The cut is a clean prefix of the log, and no longer one is clean.
+pub fn longest_clean_prefix<Op>()
+    ensures test { (k : Clock) (log : List (Entry Op)) (n : ℕ) → IsTrue (is_clean_prefix k log n) ↔ IsCleanPrefix k log n }
+    ensures within { (k : Clock) (log : List (Entry Op)) → clean_cut log k ≤ length log }
+    ensures clean { (k : Clock) (log : List (Entry Op)) → IsCleanPrefix k log (clean_cut log k) }
+    ensures longest { (k : Clock) (log : List (Entry Op)) (n : ℕ) → n ≤ length log → IsCleanPrefix k log n → n ≤ clean_cut log k }
+{}
+
+/// Settling does not change the value: nothing that is folded into the base is concurrent to what is left in the log.
+pub fn settled_value<T: Tower>(tower: &T)
+    ensures { (s : Logged T.State T.Op) (k : Clock) → value_of (T.meaning tower.now) (observed_settle (T.meaning tower.now) s k) ≡ value_of (T.meaning tower.now) s }
+{}
+
+/// In whatever causal order operations and observed resets come, the value is that of exactly the operations that no reset knew
+/// of, by rising key.
+pub fn value_of_unforgotten<T: Tower>(tower: &T)
+    ensures { (xs : List (Entry (ObservedOp T.Op))) → AreApart xs → IsCausal xs → value_of (T.meaning tower.now) (apply_all (observed_meaning (T.meaning tower.now)) (observed_meaning (T.meaning tower.now)).init xs) ≡ document (T.meaning tower.now) (canonical (unforgotten xs)) }
+{}
