@@ -1,8 +1,15 @@
 -- What holds while operations in canonical order are applied to a good state.
-use Rattle.std.proofs.Common.{◌≡◌, ℕ, ◌+◌, ◌<◌, List, [], ◌∷◌, ◌++◌, Bool, cond, refl, inr, ap, ap₂, sym, ◌∙◌, subst, length, get_or, drop, map}
-use Rattle.std.specs.List.{All, filter}
+use Rattle.std.proofs.Common.{◌≡◌, ℕ, ◌+◌, ◌≤◌, ◌<◌, List, [], ◌∷◌, ◌++◌, Bool, false, cond, refl, inr, ap, ap₂, sym, ◌∙◌, subst, length, get_or, drop, map}
+use Rattle.std.specs.List.{All, AllByRecursion, filter}
+use Rattle.std.proofs.lemmas.List.{drop_all}
 use Rattle.std.proofs.lemmas.List.Elements.{recursion_from_All, All-from_recursion}
-use Rattle.vector_clock.specs.Stamp.{id_of}
+use Rattle.vector_clock.specs.declared.stamp.Stamp.{Stamp}
+use Rattle.vector_clock.specs.Stamp.{id_of, same_id}
+use Rattle.crdt_laws.specs.Sets.{AreApart, AreIssued}
+use Rattle.crdt_laws.proofs.Acts.{lacks-apply}
+use Rattle.crdt_laws.proofs.Forms
+use Rattle.crdt_laws.proofs.Forms.{present-stamp}
+use Rattle.crdt_laws.proofs.Ready.{next_issued}
 use Rattle.crdt_laws.specs.declared.small.Entry.{Entry}
 use Rattle.crdt_laws.specs.Document.{MayFollow}
 use Rattle.crdt_laws.specs.Entry.{entry}
@@ -77,6 +84,35 @@ module _ {State Op : Type 0} (t : Meaning State Op) (law : IsLawful t) where
       → s' ≡ t.apply s x.stamp (present t h x).op → h' ≡ kept_with t h x → IsOnTheWay t s h (drop i l) d → IsOnTheWay t s' h' (drop (i + 1) l) d
   way_next s s' h h' l i x d m is a b w =
       step_way s s' h h' (drop (i + 1) l) x d a b (subst (λ k. IsOnTheWay t s h k d) (drop_item l i x m is) w)
+
+-- nothing is left
+pub way_last : {State Op : Type 0} (t : Meaning State Op) (s : State) (h l : List (Entry Op)) (i : ℕ) (d : State) → length l ≤ i → IsOnTheWay t s h (drop i l) d → s ≡ d
+way_last t s h l i d m w = ap (λ xs. apply_all t s (own_forms t w.forms xs)) (sym (drop_all i l m)) ∙ w.left
+
+-- operations that may be applied one after another leave a good state
+module _ {State Op : Type 0} (t : Meaning State Op) (law : IsLawful t) (n : ℕ) where
+  abbrev AllIssued : List (Entry Op) → Type 0
+  AllIssued xs = AllByRecursion (λ e. IsIssued t n e.stamp e.op) xs
+
+  lacking_after : (s : State) (p : Stamp) (o : Op) (xs : List (Entry Op)) → AllByRecursion (λ e. Lacks t s (id_of e.stamp)) xs → AllByRecursion (λ e. same_id p e.stamp ≡ false) xs → AllByRecursion (λ e. Lacks t (t.apply s p o) (id_of e.stamp)) xs
+  lacking_after s p o [] f d = tt
+  lacking_after s p o (e ∷ xs) f d = (lacks-apply t law s p e.stamp o f.0 d.0, lacking_after s p o xs f.1 d.1)
+
+  good_after : (xs es : List (Entry Op)) (s : State) → t.good n s → AllIssued es → AllIssued xs → AllByRecursion (λ e. Lacks t s (id_of e.stamp)) xs → AreApart xs → t.good n (apply_all t s (own_forms t es xs))
+  good_after [] es s g h v f a = g
+  good_after (x ∷ xs) es s g h v f a =
+      let y = present t es x in
+      let e : x.stamp ≡ y.stamp = sym (present-stamp t es x) in
+      let w : IsIssued t n y.stamp y.op = Forms.present-issued t n law es x h v.0 in
+      good_after xs (with_next t es x) (t.apply s y.stamp y.op)
+      (law.good-apply n s y.stamp y.op g w (subst (λ p. Lacks t s (id_of p)) e f.0)) (next_issued t law n es x h v.0) v.1
+      (lacking_after s y.stamp y.op xs f.1 (subst (λ p. AllByRecursion (λ (z : Entry Op). same_id p z.stamp ≡ false) xs) e a.0)) a.1
+
+  pub run_good : (s d : State) (xs : List (Entry Op)) → d ≡ document_from t s xs → IsRun t s xs → t.good n s → AreIssued t n xs → t.good n d
+  run_good s d xs e r g v =
+      subst (t.good n) (sym e)
+      (good_after xs [] s g tt (recursion_from_All (λ (x : Entry Op). IsIssued t n x.stamp x.op) xs v)
+      (recursion_from_All (λ (x : Entry Op). Lacks t s (id_of x.stamp)) xs r.fresh) r.apart)
 
 -- the kept forms once x is in, as the program makes them
 pub kept_are : {State Op : Type 0} (t : Meaning State Op) (es old now : List (Entry Op)) (x : Entry Op) (op form : Op) (kept new : List (Entry Op)) (b : Bool) → op ≡ x.op → old ≡ es → now ≡ es

@@ -1,5 +1,5 @@
 -- What each issued operation keeps, the document keeps.
-use Rattle.std.proofs.Common.{◌≡◌, ℕ, List, [], ◌∷◌, sym, subst}
+use Rattle.std.proofs.Common.{ℕ, List, [], ◌∷◌, sym, subst}
 use Rattle.std.specs.List.{AllByRecursion}
 use Rattle.vector_clock.specs.declared.stamp.Stamp.{Stamp}
 use Rattle.crdt_laws.specs.declared.small.Entry.{Entry}

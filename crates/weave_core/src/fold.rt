@@ -1,6 +1,7 @@
-ghost use Rattle.std.specs.Prelude.{◌≡◌, IfOk};
+ghost use Rattle.std.specs.Prelude.{◌≡◌, ℕ, IfOk};
 ghost use Rattle.crdt_laws.specs.Document.{MayFollow};
 ghost use Rattle.crdt_laws.specs.Present.{document_from, present};
+ghost use Rattle.crdt_laws.specs.Sets.{AreIssued};
 ghost use Rattle.weave_core.specs.Deliver.{IsRun, kept_with};
 
 use crdt_laws::{Entry, NoMemory, Ops, Tower, acted_forms, present_form};
@@ -39,7 +40,8 @@ pub fn fold_plain<T: Tower>(
     ops: &Ops<T::Op>,
 ) -> Result<T::State, NoMemory>
     requires { IsRun (T.meaning tower.now) from ops.now }
-    ensures { IfOk result (λ s. s ≡ document_from (T.meaning tower.now) from ops.now) }
+    ensures document { IfOk result (λ s. s ≡ document_from (T.meaning tower.now) from ops.now) }
+    ensures good { (n : ℕ) → (T.meaning tower.now).good n from → AreIssued (T.meaning tower.now) n ops.now → IfOk result (λ s. (T.meaning tower.now).good n s) }
 {
     let mut state = from;
     let mut history = Ops::new(alloc);

@@ -1,5 +1,5 @@
 use Rattle.crdt_laws.specs.Present.{document_from}
-use Rattle.weave_core.proofs.FoldPlain.{way_first, way_item, way_next}
+use Rattle.weave_core.proofs.FoldPlain.{run_good, way_first, way_item, way_last, way_next}
 use Rattle.weave_core.proofs.fold.fold_plain.Goals as goal
 
 pub loop-e-init : goal.loop-e-init
@@ -17,3 +17,11 @@ loop-e-preserved g c =
     let t = g.T.Tower.meaning c.args.tower.now in
     way_next t (g.met.T.Tower.lawful c.args.tower.now) c.loop-e.state c.in_ok-next.next c.loop-e.history c.in_ok-next.kept c.as_slice-entries.result.now c.loop-e.e-index c.e-item.result (document_from t c.args.from c.args.ops.now)
     c.loop-e-test.true c.e-item.is c.in_ok-next.ensures.state c.in_ok-next.ensures.history c.loop-e.invariant
+
+pub returns-clause-good : goal.returns-clause-good
+returns-clause-good g c =
+    let t = g.T.Tower.meaning c.args.tower.now in
+    let d = document_from t c.args.from c.args.ops.now in
+    λ n good issued.
+        run_good t (g.met.T.Tower.lawful c.args.tower.now) n c.args.from c.loop-e.state c.args.ops.now
+        (way_last t c.loop-e.state c.loop-e.history c.as_slice-entries.result.now c.loop-e.e-index d c.loop-e-test.false c.loop-e.invariant) c.requires good issued
