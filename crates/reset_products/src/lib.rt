@@ -11,3 +11,6 @@ pub use cut::clean_cut;
 pub use laws::{longest_clean_prefix, settled_value, value_of_unforgotten};
 pub use observed::{Observed, ObservedOp, ObservedState};
 pub use wins::{Winning, winning};
+
+#[cfg(test)]
+mod tests;

@@ -44,9 +44,9 @@ pub struct Observed<T: Tower> {
 }
 
 impl<T: Tower> Observed<T> {
-    ghost use Rattle.std.specs.Prelude.{◌≡◌, IsTrue, IfOk};
+    ghost use Rattle.std.specs.Prelude.{◌≡◌, ℕ, IsTrue, IfOk};
     ghost use Rattle.crdt_laws.specs.Tower.{IsState};
-    ghost use Rattle.reset_products.specs.Observed.{observed_meaning, value_of};
+    ghost use Rattle.reset_products.specs.Observed.{IsGoodLog, observed_meaning, value_of};
 
     /// The tower `part`, which is plain, with resets that forget what they knew of.
     pub fn of(part: T) -> Observed<T>
@@ -59,7 +59,8 @@ impl<T: Tower> Observed<T> {
     /// The document of the log, from the base. The state is good. Only want of memory is refused.
     pub fn value(&self, alloc: Global, state: &ObservedState<T>) -> Result<T::State, NoMemory>
         requires { IsState (observed_meaning (T.meaning self.now.part)) state.now }
-        ensures { IfOk result (λ s. s ≡ value_of (T.meaning self.now.part) state.now) }
+        ensures value { IfOk result (λ s. s ≡ value_of (T.meaning self.now.part) state.now) }
+        ensures good { (n : ℕ) → IsGoodLog (T.meaning self.now.part) n state.now → IfOk result (λ s. (T.meaning self.now.part).good n s) }
     {
         let base = self.part.copy_state(alloc, &state.base)?;
         fold_plain(alloc, &self.part, base, &state.log)

@@ -1,0 +1,230 @@
+ghost use Rattle.std.specs.Prelude.{◌≡◌, ◌≤◌, ◌<◌, IfOk, IsTrue, IsFalse};
+ghost use Rattle.std.specs.List.{All};
+ghost use Rattle.vector_clock.specs.Clock.{IsClock, count};
+ghost use Rattle.vector_clock.specs.Stamp.{IsStamp, is_below, same_id};
+ghost use Rattle.crdt_laws.specs.Sets.{AreApart, AreIssued, IsRising};
+ghost use Rattle.crdt_laws.specs.Tower.{IsStampOf};
+ghost use Rattle.semidirect_product.specs.Stack.{stack_meaning};
+ghost use Rattle.number_crdts.specs.Number.{add_meaning, mul_action};
+
+use super::*;
+use crdt_laws::{Entry, NoMemory, Ops, Tower};
+use number_crdts::{Add, Number, number};
+use semidirect_product::{MaybeOp, StackOp};
+use std::alloc::Global;
+use std::test::Fail;
+use vector_clock::{Clock, Stamp};
+use weave_core::fold_plain;
+
+// What a member of two knows: so many operations of each.
+fn clock_of(first: u32, second: u32) -> Clock
+    requires first { first ≤ 1000 }
+    requires second { second ≤ 1000 }
+    ensures clock { IsClock result }
+    ensures members { result.n ≡ 2 }
+    ensures first { count result 0 ≡ first }
+    ensures second { count result 1 ≡ second }
+{
+    Clock::zero(2).with(0, first).with(1, second)
+}
+
+// The stamp of the first member with this clock.
+fn first_at(first: u32, second: u32) -> Stamp
+    requires some { 1 ≤ first }
+    requires most { first ≤ 1000 }
+    requires second { second ≤ 1000 }
+    ensures { IsStampOf 2 result }
+{
+    Stamp {
+        member: 0,
+        clock: clock_of(first, second),
+    }
+}
+
+// The stamp of the second member with this clock.
+fn second_at(first: u32, second: u32) -> Stamp
+    requires first { first ≤ 1000 }
+    requires some { 1 ≤ second }
+    requires most { second ≤ 1000 }
+    ensures { IsStampOf 2 result }
+{
+    Stamp {
+        member: 1,
+        clock: clock_of(first, second),
+    }
+}
+
+// Whether the key of the first is less, and the names differ.
+#[tactic(auto, unfolding(vector_clock::specs::Stamp::is_below, vector_clock::specs::Stamp::is_less, vector_clock::specs::Stamp::same_id))]
+fn comes_before(a: &Stamp, b: &Stamp) -> bool
+    requires left { IsStamp a.now }
+    requires right { IsStamp b.now }
+    ensures below { IsTrue result → IsTrue (is_below a.now b.now) }
+    ensures other { IsTrue result → IsFalse (same_id a.now b.now) }
+{
+    a.key() < b.key() && a.id() != b.id()
+}
+
+// Whether the stamp has another name and a greater key than each of the entries.
+fn comes_last<Op>(entries: &[Entry<Op>], stamp: &Stamp) -> bool
+    requires stamps { All (λ e. IsStampOf 2 e.stamp) entries.now }
+    requires stamp { IsStampOf 2 stamp.now }
+    ensures { IsTrue result → All (λ e. IsTrue (is_below e.stamp stamp.now) × IsFalse (same_id e.stamp stamp.now)) entries.now }
+{
+    for e in entries {
+        if !comes_before(&e.stamp, stamp) {
+            return false;
+        }
+    }
+    true
+}
+
+// Operations in canonical order, with one that comes last. Another one ends a test as want of memory does.
+fn with_next<T: Tower>(
+    tower: &T,
+    ops: Ops<T::Op>,
+    stamp: Stamp,
+    op: T::Op,
+) -> Result<Ops<T::Op>, NoMemory>
+    requires issued { AreIssued (T.meaning tower.now) 2 ops }
+    requires rising { IsRising ops }
+    requires apart { AreApart ops }
+    requires stamp { IsStampOf 2 stamp }
+    ensures issued { IfOk result (λ r. AreIssued (T.meaning tower.now) 2 r) }
+    ensures rising { IfOk result (λ r. IsRising r) }
+    ensures apart { IfOk result (λ r. AreApart r) }
+{
+    let mut ops = ops;
+    if tower.valid(&stamp, &op) && comes_last(ops.as_slice(), &stamp) {
+        ops.push(stamp, op)?;
+        Ok(ops)
+    } else {
+        Err(NoMemory)
+    }
+}
+
+// The document of operations in canonical order.
+fn folded<T: Tower>(alloc: Global, tower: &T, ops: &Ops<T::Op>) -> Result<T::State, NoMemory>
+    requires issued { AreIssued (T.meaning tower.now) 2 ops.now }
+    requires rising { IsRising ops.now }
+    requires apart { AreApart ops.now }
+    ensures { IfOk result (λ s. (T.meaning tower.now).good 2 s) }
+{
+    let start = tower.init(alloc)?;
+    fold_plain(alloc, tower, start, ops)
+}
+
+// The text of a state.
+fn shown<T: Tower>(alloc: Global, tower: &T, state: &T::State) -> Result<String, Fail>
+    requires { (T.meaning tower.now).good 2 state.now }
+{
+    Ok(tower.show(alloc, state)?.to_string(alloc)?)
+}
+
+// A member doubles; another one resets, and then adds 7.
+#[test]
+fn wins_over_a_concurrent_factor(rt: HostRuntime) -> Result<(), Fail> {
+    let alloc = rt.alloc();
+    let tower = winning(number());
+    let double = StackOp::Low(MaybeOp::Real(StackOp::High(2)));
+    let seven = StackOp::Low(MaybeOp::Real(StackOp::Low(7)));
+    let ops = with_next(&tower, Ops::new(alloc), first_at(1, 0), double)?;
+    let ops = with_next(&tower, ops, second_at(0, 1), StackOp::High(()))?;
+    let ops = with_next(&tower, ops, second_at(0, 2), seven)?;
+    let state = folded(alloc, &tower, &ops)?;
+    assert_eq!(rt; state, 7);
+    Ok(())
+}
+
+// A member adds 5, of which the other one hears, and 2. The other one resets.
+#[test]
+fn forgets_what_each_reset_forgets(rt: HostRuntime) -> Result<(), Fail> {
+    let alloc = rt.alloc();
+    let tower = observed_number();
+    let ops = with_next(&tower, Ops::new(alloc), first_at(1, 0), adds(5))?;
+    let ops = with_next(&tower, ops, first_at(3, 0), adds(2))?;
+    let ops = with_next(&tower, ops, second_at(2, 1), ObservedOp::Reset)?;
+    let state = folded(alloc, &tower, &ops)?;
+    assert_eq!(rt; state.base, 0);
+    assert_eq!(rt; state.log.len(), 1);
+    assert_eq!(rt; shown(alloc, &tower, &state)?.as_str(), "2");
+    let tower = winning(number());
+    let five = StackOp::Low(MaybeOp::Real(StackOp::Low(5)));
+    let two = StackOp::Low(MaybeOp::Real(StackOp::Low(2)));
+    let ops = with_next(&tower, Ops::new(alloc), first_at(2, 0), five)?;
+    let ops = with_next(&tower, ops, first_at(4, 0), two)?;
+    let ops = with_next(&tower, ops, second_at(2, 2), StackOp::High(()))?;
+    let state = folded(alloc, &tower, &ops)?;
+    assert_eq!(rt; state, 0);
+    Ok(())
+}
+
+// Numbers with observed resets.
+fn observed_number() -> Observed<Number> {
+    Observed::of(number())
+}
+
+fn adds(n: u64) -> ObservedOp<StackOp<u64, u64>> {
+    ObservedOp::Do(StackOp::Low(n))
+}
+
+// A factor of 3 and an addition of 2 that did not know of each other stay in the log until both are settled.
+#[test]
+fn settles_what_is_clean(rt: HostRuntime) -> Result<(), Fail> {
+    let alloc = rt.alloc();
+    let tower = observed_number();
+    let triple = ObservedOp::Do(StackOp::High(3));
+    let ops = with_next(
+        &tower,
+        Ops::new(alloc),
+        first_at(1, 0),
+        tower.copy_op(alloc, &triple)?,
+    )?;
+    let ops = with_next(&tower, ops, second_at(0, 1), adds(2))?;
+    let state = folded(alloc, &tower, &ops)?;
+    assert_eq!(rt; shown(alloc, &tower, &state)?.as_str(), "6");
+    let copy = tower.copy_state(alloc, &state)?;
+    let early = tower.settle(alloc, state, &clock_of(1, 0))?;
+    assert_eq!(rt; early.log.len(), 2);
+    let late = tower.settle(alloc, copy, &clock_of(1, 1))?;
+    assert_eq!(rt; late.log.len(), 0);
+    assert_eq!(rt; late.base, 6);
+    assert_eq!(rt; shown(alloc, &tower, &late)?.as_str(), "6");
+    let again = tower.act(alloc, &ObservedOp::Reset, &triple)?;
+    assert!(rt; tower.same_op(&again, &triple));
+    assert!(rt; !tower.same_op(&again, &ObservedOp::Reset));
+    Ok(())
+}
+
+// The operations of a number, from 5.
+#[test]
+fn folds_from_a_state(rt: HostRuntime) -> Result<(), Fail> {
+    let alloc = rt.alloc();
+    let tower = number();
+    let ops = with_next(&tower, Ops::new(alloc), first_at(1, 0), StackOp::High(3))?;
+    let ops = with_next(&tower, ops, second_at(0, 1), StackOp::Low(2))?;
+    assert_eq!(rt; folded_from(alloc, 5, &ops)?, 21);
+    Ok(())
+}
+
+fn folded_from(alloc: Global, from: u64, ops: &Ops<StackOp<u64, u64>>) -> Result<u64, NoMemory>
+    requires issued { AreIssued (stack_meaning add_meaning mul_action) 2 ops.now }
+    requires rising { IsRising ops.now }
+    requires apart { AreApart ops.now }
+{
+    fold_plain(alloc, &number(), from, ops)
+}
+
+// One operation that both others knew of, and these two.
+#[test]
+fn cuts_before_what_is_concurrent(rt: HostRuntime) -> Result<(), Fail> {
+    let alloc = rt.alloc();
+    let ops = with_next(&Add, Ops::new(alloc), first_at(1, 0), 1)?;
+    let ops = with_next(&Add, ops, first_at(2, 0), 2)?;
+    let ops = with_next(&Add, ops, second_at(1, 1), 3)?;
+    for (first, second, length) in [(0, 0, 0), (1, 0, 1), (2, 0, 1), (1, 1, 1), (2, 1, 3)] {
+        let cut = clean_cut(&ops, &clock_of(first, second));
+        assert_eq!(rt; cut, length, "{first} {second}");
+    }
+    Ok(())
+}
