@@ -34,7 +34,7 @@ is_at_acts : {State Op : Type 0} (t : Meaning State Op) (l : ℕ) (x : Entry Op)
 unfolding acts_at
 is_at_acts t l x h e = grind (arith, nat_tests)
 
-acting_low : {State Op : Type 0} (t : Meaning State Op) (x : Entry Op) (h : List (Entry Op)) (l : ℕ) → l ≤ t.level x.op → acting t l h x ≡ []
+pub acting_low : {State Op : Type 0} (t : Meaning State Op) (x : Entry Op) (h : List (Entry Op)) (l : ℕ) → l ≤ t.level x.op → acting t l h x ≡ []
 acting_low t x h zero m = refl
 acting_low {Op = Op} t x h (suc l) m =
     ap₂ (λ (a b : List (Entry Op)). a ++ b) (none h) (acting_low t x h l (omega arith))

@@ -1,3 +1,4 @@
 pub mod Cutting
 pub mod Settling
 pub mod Forgetting
+pub mod Untouching

@@ -3,3 +3,4 @@ pub mod CutLaws
 pub mod Observed
 pub mod ObservedLaws
 pub mod Forgotten
+pub mod Untouched

@@ -3,10 +3,11 @@ ghost use Rattle.std.specs.Prelude.{◌≡◌, ◌≤◌, ◌↔◌, ℕ, List, 
 ghost use Rattle.vector_clock.specs.declared.clock.Clock.{Clock};
 ghost use Rattle.crdt_laws.specs.declared.small.Entry.{Entry};
 ghost use Rattle.crdt_laws.specs.Present.{apply_all, document};
-ghost use Rattle.crdt_laws.specs.Sets.{AreApart, IsCausal, canonical};
+ghost use Rattle.crdt_laws.specs.Sets.{AreApart, AreIssued, IsCausal, canonical};
 ghost use Rattle.reset_products.specs.Cut.{IsCleanPrefix, clean_cut, is_clean_prefix};
 ghost use Rattle.reset_products.specs.Observed.{Logged, observed_meaning, observed_settle, value_of};
 ghost use Rattle.reset_products.specs.Forgotten.{unforgotten};
+ghost use Rattle.reset_products.specs.Untouched.{WinningOp, untouched, winning_meaning};
 ghost use Rattle.reset_products.specs.declared.observed.ObservedOp.{ObservedOp};
 
 use crdt_laws::Tower;
@@ -28,4 +29,10 @@ pub fn settled_value<T: Tower>(tower: &T)
 /// of, by rising key.
 pub fn value_of_unforgotten<T: Tower>(tower: &T)
     ensures { (xs : List (Entry (ObservedOp T.Op))) → AreApart xs → IsCausal xs → value_of (T.meaning tower.now) (apply_all (observed_meaning (T.meaning tower.now)) (observed_meaning (T.meaning tower.now)).init xs) ≡ document (T.meaning tower.now) (canonical (unforgotten xs)) }
+{}
+
+/// In whatever causal order operations and winning resets stand, their document is that of exactly the operations that come after
+/// each reset: what is concurrent to a reset never survives it, and what is later always does.
+pub fn document_of_untouched<T: Tower>(tower: &T)
+    ensures { (n : ℕ) (xs : List (Entry (WinningOp T.Op))) → AreIssued (winning_meaning (T.meaning tower.now)) n xs → AreApart xs → IsCausal xs → document (winning_meaning (T.meaning tower.now)) xs ≡ document (T.meaning tower.now) (untouched xs) }
 {}

@@ -8,7 +8,7 @@ mod observed;
 mod wins;
 
 pub use cut::clean_cut;
-pub use laws::{longest_clean_prefix, settled_value, value_of_unforgotten};
+pub use laws::{document_of_untouched, longest_clean_prefix, settled_value, value_of_unforgotten};
 pub use observed::{Observed, ObservedOp, ObservedState};
 pub use wins::{Winning, winning};
 

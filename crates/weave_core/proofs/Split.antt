@@ -61,11 +61,11 @@ module _ {State Op : Type 0} (t : Meaning State Op) where
       (ap (λ l. own_forms t l ys) (with_next_known y es fs h.0)
       ∙ own_forms_known ys (map (acted t z) es) (with_next t fs y) (each_known z es ys h.1))
 
-  own_forms-append : (xs ys fs : List (Entry Op)) → own_forms t fs (xs ++ ys) ≡ own_forms t fs xs ++ own_forms t (fold (with_next t) fs xs) ys
+  pub own_forms-append : (xs ys fs : List (Entry Op)) → own_forms t fs (xs ++ ys) ≡ own_forms t fs xs ++ own_forms t (fold (with_next t) fs xs) ys
   own_forms-append [] ys fs = refl
   own_forms-append (x ∷ xs) ys fs = ap (λ (l : List (Entry Op)). present t fs x ∷ l) (own_forms-append xs ys (with_next t fs x))
 
-  apply_all-append : (s : State) (xs ys : List (Entry Op)) → apply_all t s (xs ++ ys) ≡ apply_all t (apply_all t s xs) ys
+  pub apply_all-append : (s : State) (xs ys : List (Entry Op)) → apply_all t s (xs ++ ys) ≡ apply_all t (apply_all t s xs) ys
   apply_all-append s [] ys = refl
   apply_all-append s (x ∷ xs) ys = apply_all-append (t.apply s x.stamp x.op) xs ys
 
@@ -90,7 +90,7 @@ module _ {State Op : Type 0} (t : Meaning State Op) where
       ap (apply_all t s) (own_forms-append xs ys [])
       ∙ apply_all-append s (own_forms t [] xs) (own_forms t (forms t xs) ys)
       ∙ ap (apply_all t (document_from t s xs))
-          (ap (λ l. own_forms t l ys) (sym (append-nil (forms t xs))) ∙ own_forms_known ys (forms t xs) [] (forms_known xs ys h))
+      (ap (λ l. own_forms t l ys) (sym (append-nil (forms t xs))) ∙ own_forms_known ys (forms t xs) [] (forms_known xs ys h))
 
 -- each of xs is before each of ys
 abbrev pub AreBefore : {Op : Type 0} → List (Entry Op) → List (Entry Op) → Type 0
@@ -98,9 +98,10 @@ AreBefore xs ys = AllByRecursion (λ x. AllByRecursion (λ y. is_before x.stamp 
 
 before_known : {Op : Type 0} (xs ys : List (Entry Op)) → AreBefore xs ys → AllByRecursion (AreKnown xs) ys
 before_known xs [] h = tt
-before_known {Op} xs (y ∷ ys) h =
-    (all_weaker (λ (x : Entry Op). AllByRecursion (λ (z : Entry Op). is_before x.stamp z.stamp ≡ true) (y ∷ ys)) (λ x. are_concurrent x.stamp y.stamp ≡ false) (λ x k. before_not_concurrent x.stamp y.stamp k.0) xs h,
-    before_known xs ys (all_weaker (λ (x : Entry Op). AllByRecursion (λ (z : Entry Op). is_before x.stamp z.stamp ≡ true) (y ∷ ys)) (λ x. AllByRecursion (λ (z : Entry Op). is_before x.stamp z.stamp ≡ true) ys) (λ x k. k.1) xs h))
+before_known {Op} xs (y ∷ ys) h = (
+  all_weaker (λ (x : Entry Op). AllByRecursion (λ (z : Entry Op). is_before x.stamp z.stamp ≡ true) (y ∷ ys)) (λ x. are_concurrent x.stamp y.stamp ≡ false) (λ x k. before_not_concurrent x.stamp y.stamp k.0) xs h,
+  before_known xs ys (all_weaker (λ (x : Entry Op). AllByRecursion (λ (z : Entry Op). is_before x.stamp z.stamp ≡ true) (y ∷ ys)) (λ x. AllByRecursion (λ (z : Entry Op). is_before x.stamp z.stamp ≡ true) ys) (λ x k. k.1) xs h),
+)
 
 -- Where all of xs are before all of ys, the document of both is that of ys from that of xs.
 pub document_from-append : {State Op : Type 0} (t : Meaning State Op) (s : State) (xs ys : List (Entry Op)) → AreBefore xs ys → document_from t s (xs ++ ys) ≡ document_from t (document_from t s xs) ys

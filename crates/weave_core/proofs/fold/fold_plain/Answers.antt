@@ -23,5 +23,5 @@ returns-clause-good g c =
     let t = g.T.Tower.meaning c.args.tower.now in
     let d = document_from t c.args.from c.args.ops.now in
     λ n good issued.
-        run_good t (g.met.T.Tower.lawful c.args.tower.now) n c.args.from c.loop-e.state c.args.ops.now
-        (way_last t c.loop-e.state c.loop-e.history c.as_slice-entries.result.now c.loop-e.e-index d c.loop-e-test.false c.loop-e.invariant) c.requires good issued
+    run_good t (g.met.T.Tower.lawful c.args.tower.now) n c.args.from c.loop-e.state c.args.ops.now
+    (way_last t c.loop-e.state c.loop-e.history c.as_slice-entries.result.now c.loop-e.e-index d c.loop-e-test.false c.loop-e.invariant) c.requires good issued
