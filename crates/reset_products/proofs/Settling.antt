@@ -1,8 +1,9 @@
 -- What holds where the program settles a state, and shows one.
-use Rattle.std.proofs.Common.{◌≡◌, ℕ, ◌≤◌, true, List, [], ◌∷◌, IsTrue, sym, subst, length, take, drop}
+use Rattle.std.proofs.Common.{◌≡◌, ℕ, ◌≤◌, true, false, List, [], ◌∷◌, IsTrue, sym, ap, subst, ◌∙◌, length, take, drop}
 use Rattle.std.specs.List.{All, AllByRecursion}
 use Rattle.vector_clock.specs.Clock.{covers}
-use Rattle.vector_clock.specs.Stamp.{id_of, is_before}
+use Rattle.vector_clock.specs.Stamp.{are_concurrent, id_of, is_before}
+use Rattle.weave_core.proofs.Split.{before_not_concurrent}
 use Rattle.std.proofs.lemmas.List.Elements.{All-from_recursion, recursion_from_All}
 use Rattle.vector_clock.specs.declared.clock.Clock.{Clock}
 use Rattle.crdt_laws.specs.declared.small.Entry.{Entry}
@@ -29,6 +30,10 @@ fact_of {Op} k log n h =
 
 pub prefix_from : {Op : Type 0} (k : Clock) (log : List (Entry Op)) (n : ℕ) → is_clean_prefix k log n ≡ true → IsCleanPrefix k log n
 prefix_from k log n h = fact_of k log n (clean_from k (take n log) (drop n log) h)
+
+-- nothing in the prefix is concurrent to what comes after it
+pub clean_not_concurrent : {Op : Type 0} (k : Clock) (log : List (Entry Op)) (n : ℕ) → IsCleanPrefix k log n → All (λ x. All (λ y. are_concurrent x.stamp y.stamp ≡ false) (drop n log)) (take n log)
+clean_not_concurrent k log n h = λ i d m j e l. before_not_concurrent _ _ (h.before i d m j e l)
 
 pub cut_is_clean : {Op : Type 0} (k : Clock) (log : List (Entry Op)) → IsCleanPrefix k log (clean_cut log k)
 cut_is_clean k log = fact_of k log (clean_cut log k) (cut_clean log k)
@@ -60,10 +65,10 @@ module _ {S O : Type 0} (m : Meaning S O) (law : IsLawful m) (plain : IsTrue m.p
         fresh = λ i d _. record { none = λ p g _. law.plain_holds s.base p plain g };
       }
 
-  pub settled_run : (n c : ℕ) (s : Logged S O) (b : S) (l xs : List (Entry O)) → record { base = b; log = l } ≡ s → IsGoodLog m n s → xs ≡ take c l → IsRun m b xs
-  settled_run n c s b l xs e h is =
+  pub settled_run : (n c : ℕ) (s : Logged S O) (b : S) (l k xs : List (Entry O)) → record { base = b; log = l } ≡ s → IsGoodLog m n s → k ≡ l → xs ≡ take c k → IsRun m b xs
+  settled_run n c s b l k xs e h same is =
       let t : Logged S O = record { base = b; log = l } in
-      subst (IsRun m b) (sym is) (front_run n c t (subst (IsGoodLog m n) (sym e) h))
+      subst (IsRun m b) (sym (is ∙ ap (take c) same)) (front_run n c t (subst (IsGoodLog m n) (sym e) h))
 
   pub shown_state : (n : ℕ) (s : Logged S O) (v : S) → IsGoodLog m n s → v ≡ value_of m s → IsState m v
   shown_state n s v h e = record { members = n; good = subst (m.good n) (sym e) (value_good m law plain n s h) }

@@ -8,7 +8,10 @@ mod observed;
 mod wins;
 
 pub use cut::clean_cut;
-pub use laws::{document_of_untouched, longest_clean_prefix, settled_value, value_of_unforgotten};
+pub use laws::{
+    document_of_untouched, longest_clean_prefix, observed_is_lawful, resets_act_lawfully,
+    settled_value, value_of_unforgotten, winning_is_lawful,
+};
 pub use observed::{Observed, ObservedOp, ObservedState};
 pub use wins::{Winning, winning};
 

@@ -149,6 +149,9 @@ impl<T: Tower> Tower for Observed<T> {
     ) -> Result<ObservedState<T>, NoMemory> {
         let ObservedState { base, log } = state;
         let cut = clean_cut(&log, k) as usize;
+        if cut == 0 {
+            return Ok(ObservedState { base, log });
+        }
         let Ops { mut items } = log;
         let left = items.split_off(cut)?;
         let base = fold_plain(alloc, &self.part, base, &Ops { items })?;

@@ -10,7 +10,7 @@ use Rattle.crdt_laws.specs.Tower.{Meaning}
 use Rattle.crdt_laws.proofs.Filters.{all-append, all-map, all_weaker}
 use Rattle.crdt_laws.proofs.Forms.{present-stamp}
 
-before_not_concurrent : (a b : Stamp) → is_before a b ≡ true → are_concurrent a b ≡ false
+pub before_not_concurrent : (a b : Stamp) → is_before a b ≡ true → are_concurrent a b ≡ false
 unfolding are_concurrent
 before_not_concurrent a b h = grind arith
 

@@ -1,4 +1,4 @@
-use Rattle.std.proofs.Common.{length, take, ap, ◌∙◌}
+use Rattle.std.proofs.Common.{length, ap, ◌∙◌}
 use Rattle.reset_products.proofs.Settling.{cut_fits, settled_run}
 use Rattle.reset_products.proofs.observed.ObservedTower.settle.Goals as goal
 
@@ -8,5 +8,5 @@ split_off-requires g c =
 
 pub fold_plain-requires : goal.fold_plain-requires
 fold_plain-requires g c =
-    settled_run (g.T.Tower.meaning c.args.self.now.part) (g.met.T.Tower.lawful c.args.self.now.part) c.args.self.now.plain c.args.k.now.n c.clean_cut-cut.result c.args.state c.state.inside.base c.state.inside.log c.split_off.new.self.items
-    c.state.view_is c.requires.good (c.in_ok-left.ensures.items ∙ ap (take c.clean_cut-cut.result) c.log.view_is)
+    settled_run (g.T.Tower.meaning c.args.self.now.part) (g.met.T.Tower.lawful c.args.self.now.part) c.args.self.now.plain c.args.k.now.n _ c.args.state c.state.inside.base c.state.inside.log c.log.inside.items.items c.split_off.new.self.items
+    c.state.view_is c.requires.good c.log.view_is c.in_ok-left.ensures.items
