@@ -6,7 +6,7 @@ use Rattle.std.specs.Str.{bytes_eq}
 use Rattle.std.proofs.lemmas.Bool.{and_parts, cond_both, ltb-true}
 use Rattle.std.proofs.lemmas.Bool.Decides.{nat_tests}
 use Rattle.lab_model.specs.declared.command.Command.{Command}
-use Rattle.lab_model.specs.declared.command.Command.TheVariants.{New, Edit, Show, Export, Merge, Play}
+use Rattle.lab_model.specs.declared.command.Command.TheVariants.{New, Edit, Show, Export, Merge, Play, Check}
 use Rattle.lab_model.specs.declared.command.Verb.{Verb}
 use Rattle.lab_model.specs.Line.{command_of, command_of_words, edit_of, is_file_name, is_number, member_of, negative, new_of, number_below, residue_of, value_of, verb_of}
 
@@ -68,7 +68,11 @@ either b x h = cond_both b x None IsReadable (λ _. h) (λ _. tt)
 words_readable : (words : List (List ℕ)) → IsReadable (command_of_words words)
 words_readable [] = tt
 words_readable (verb ∷ []) = either (bytes_eq verb (codes "play")) (Some Play) tt
-words_readable (verb ∷ file ∷ []) = either (bytes_eq verb (codes "show") && is_file_name file) (Some (Show file)) tt
+words_readable (verb ∷ file ∷ []) =
+    let check = cond (bytes_eq verb (codes "check")) (Some (Check file)) None in
+    either (is_file_name file) (cond (bytes_eq verb (codes "show")) (Some (Show file)) check)
+    (cond_both (bytes_eq verb (codes "show")) (Some (Show file)) check IsReadable (λ _. tt)
+    (λ _. either (bytes_eq verb (codes "check")) (Some (Check file)) tt))
 words_readable (verb ∷ file ∷ batch ∷ []) =
     let merge = cond (bytes_eq verb (codes "merge")) (Some (Merge file batch)) None in
     either (is_file_name file && is_file_name batch) (cond (bytes_eq verb (codes "export")) (Some (Export file batch)) merge)

@@ -22,7 +22,7 @@ use Rattle.replica_model.proofs.Things.{in_split, split_has, split_it}
 use Rattle.replica_model.proofs.Told.{delivered_alike}
 use Rattle.replica_model.proofs.Versions.{count-with_other, count-with_own, length-version, version_below}
 use Rattle.lab_model.specs.declared.command.Command.{Command}
-use Rattle.lab_model.specs.declared.command.Command.TheVariants.{New, Edit, Show, Export, Merge, Play}
+use Rattle.lab_model.specs.declared.command.Command.TheVariants.{New, Edit, Show, Export, Merge, Play, Check}
 use Rattle.lab_model.specs.declared.command.Verb.{Verb}
 use Rattle.lab_model.specs.declared.refusal.Refusal.{Refusal}
 use Rattle.lab_model.specs.Honest.{AreFair, CountAtMost, MakesValid, IsFairCommand, IsHonestLab, doc_of, things}
@@ -241,6 +241,7 @@ module _ {State Op : Type 0} (m : Meaning State Op) (made : Verb → ℕ → Op)
   command_goes (Some (Export file name)) h fair = export_goes file name (thing_at lab file) (thing_at lab name) refl refl
   command_goes (Some (Merge file name)) h fair = merge_goes file name (thing_at lab file) (thing_at lab name) refl refl
   command_goes (Some Play) h fair = stays
+  command_goes (Some (Check table)) h fair = stays
 
   pub step_goes : (line : List ℕ) → IsFairCommand m made lab (command_of line) → Keeps m (k + 1) (lab_step m made lab line).lab
   unfolding lab_step

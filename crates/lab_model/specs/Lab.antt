@@ -7,7 +7,7 @@ use Rattle.crdt_laws.specs.Present.{document}
 use Rattle.replica_model.specs.Replica.{edited, exported, merged, new_replica}
 use Rattle.replica_model.specs.Family.{Thing, replica, batch}
 use Rattle.lab_model.specs.declared.command.Command.{Command}
-use Rattle.lab_model.specs.declared.command.Command.TheVariants.{New, Edit, Show, Export, Merge, Play}
+use Rattle.lab_model.specs.declared.command.Command.TheVariants.{New, Edit, Show, Export, Merge, Play, Check}
 use Rattle.lab_model.specs.declared.command.Verb.{Verb}
 use Rattle.lab_model.specs.declared.refusal.Refusal.{Refusal}
 use Rattle.lab_model.specs.declared.refusal.Refusal.TheVariants.{Unbuilt, Exists, Missing}
@@ -83,6 +83,7 @@ module _ {State Op : Type 0} (m : Meaning State Op) (made : Verb → ℕ → Op)
   act lab (Export file name) = export_under lab file name (thing_at lab file) (thing_at lab name)
   act lab (Merge file name) = merge_under lab file name (thing_at lab file) (thing_at lab name)
   act lab Play = Err Unbuilt
+  act lab (Check table) = Err Unbuilt
 
   -- a line that is no command is refused too
   abbrev pub act_on : Lab Op → Option Command → Result (Effect Op) Refusal

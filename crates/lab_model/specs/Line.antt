@@ -5,7 +5,7 @@ use Rattle.std.specs.List.{list_all, slice_split}
 use Rattle.std.specs.Str.{bytes_eq}
 use Rattle.std.specs.Str.Lines.{strip_carriage_return}
 use Rattle.lab_model.specs.declared.command.Command.{Command}
-use Rattle.lab_model.specs.declared.command.Command.TheVariants.{New, Edit, Show, Export, Merge, Play}
+use Rattle.lab_model.specs.declared.command.Command.TheVariants.{New, Edit, Show, Export, Merge, Play, Check}
 use Rattle.lab_model.specs.declared.command.Verb.{Verb}
 use Rattle.lab_model.specs.declared.command.Verb.TheVariants.{Add, Mul}
 
@@ -72,7 +72,10 @@ edit_of file (Some verb) (Some amount) = Some (Edit file verb amount)
 -- the command of these words
 abbrev pub command_of_words : List (List ℕ) → Option Command
 command_of_words (verb ∷ []) = if bytes_eq verb (codes "play") then Some Play else None
-command_of_words (verb ∷ file ∷ []) = if bytes_eq verb (codes "show") && is_file_name file then Some (Show file) else None
+command_of_words (verb ∷ file ∷ []) =
+    if is_file_name file
+    then (if bytes_eq verb (codes "show") then Some (Show file) else if bytes_eq verb (codes "check") then Some (Check file) else None)
+    else None
 command_of_words (verb ∷ file ∷ batch ∷ []) =
     if is_file_name file && is_file_name batch
     then (if bytes_eq verb (codes "export") then Some (Export file batch) else if bytes_eq verb (codes "merge") then Some (Merge file batch) else None)

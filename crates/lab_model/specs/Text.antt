@@ -3,8 +3,13 @@ use Rattle.std.specs.Prelude.{ℕ, List, [], ◌∷◌, ◌++◌, codes}
 use Rattle.std.specs.Fmt.{decimal}
 use Rattle.serde_json.specs.Data.{Data, member, no_members, object}
 use Rattle.serde_json.specs.Written.{compact_text}
+use Rattle.action_tables.specs.declared.named.TableFault.{TableFault}
+use Rattle.action_tables.specs.declared.named.TableFault.TheVariants as fault
+use Rattle.action_tables.specs.declared.table.Shape.TheVariants as shape
+use Rattle.action_tables.specs.declared.table.Verdict.{Verdict}
+use Rattle.action_tables.specs.declared.table.Verdict.TheVariants.{Lawful, Broken}
 use Rattle.lab_model.specs.declared.refusal.Refusal.{Refusal}
-use Rattle.lab_model.specs.declared.refusal.Refusal.TheVariants.{Unbuilt, Exists, Missing}
+use Rattle.lab_model.specs.declared.refusal.Refusal.TheVariants.{Unbuilt, Exists, Missing, Table}
 
 -- every text ends with one line feed
 abbrev pub ended : List ℕ → List ℕ
@@ -26,10 +31,28 @@ delivered_text delivered waiting = ended (codes "delivered " ++ decimal delivere
 abbrev pub document_text : Data → List ℕ
 document_text n = ended (compact_text (object (member (codes "n") n no_members)))
 
+-- what a check of a table finds
+abbrev pub verdict_text : Verdict → List ℕ
+verdict_text Lawful = ended (codes "lawful")
+verdict_text (Broken law a b c) =
+    ended (codes "broken " ++ decimal law ++ codes " " ++ decimal a ++ codes " " ++ decimal b ++ codes " " ++ decimal c)
+
+-- what is at fault with the text of a table
+abbrev pub fault_text : TableFault → List ℕ
+fault_text fault.NotJson = codes "not-json"
+fault_text fault.Form = codes "form"
+fault_text fault.Name = codes "name"
+fault_text fault.Twice = codes "twice"
+fault_text (fault.Shape shape.Size) = codes "size"
+fault_text (fault.Shape shape.Level) = codes "level"
+fault_text (fault.Shape (shape.Entry at)) = codes "entry " ++ decimal at
+fault_text fault.NoMemory = codes "no-memory"
+
 abbrev pub refusal_text : Refusal → List ℕ
 refusal_text Unbuilt = codes "unbuilt"
 refusal_text (Exists name) = codes "exists " ++ name
 refusal_text (Missing name) = codes "missing " ++ name
+refusal_text (Table fault) = codes "table " ++ fault_text fault
 
 abbrev pub refused_text : Refusal → List ℕ
 refused_text refusal = ended (codes "refused " ++ refusal_text refusal)

@@ -37,4 +37,8 @@ pub enum Command {
     },
     /// Runs the lines of a script. It is no line of one itself.
     Play,
+    /// Says whether a table keeps its laws. It is no line of a script.
+    Check {
+        table: FileName,
+    },
 }

@@ -1,4 +1,5 @@
 use crate::name::FileName;
+use action_tables::{Shape, TableFault};
 use std::fmt;
 
 /// Why a line is refused. It changes nothing then.
@@ -10,6 +11,8 @@ pub enum Refusal {
     Exists(FileName),
     /// There is nothing of this name.
     Missing(FileName),
+    /// The file is no table. Want of memory is no such fault, and ends the call.
+    Table(TableFault),
 }
 
 impl fmt::Display for Refusal {
@@ -23,6 +26,14 @@ impl fmt::Display for Refusal {
             Refusal::Unbuilt => write!(f, "unbuilt"),
             Refusal::Exists(name) => write!(f, "exists {name}"),
             Refusal::Missing(name) => write!(f, "missing {name}"),
+            Refusal::Table(TableFault::NotJson) => write!(f, "table not-json"),
+            Refusal::Table(TableFault::Form) => write!(f, "table form"),
+            Refusal::Table(TableFault::Name) => write!(f, "table name"),
+            Refusal::Table(TableFault::Twice) => write!(f, "table twice"),
+            Refusal::Table(TableFault::Shape(Shape::Size)) => write!(f, "table size"),
+            Refusal::Table(TableFault::Shape(Shape::Level)) => write!(f, "table level"),
+            Refusal::Table(TableFault::Shape(Shape::Entry { at })) => write!(f, "table entry {at}"),
+            Refusal::Table(TableFault::NoMemory) => write!(f, "table no-memory"),
         }
     }
 }

@@ -2,6 +2,7 @@
 //! has a form in memory, whose calls fail where they are told to.
 #![tactic(auto)]
 
+mod folder_store;
 mod mem_sink;
 mod mem_source;
 mod mem_store;
@@ -9,6 +10,7 @@ mod std_streams;
 mod store;
 mod stream;
 
+pub use folder_store::FolderStore;
 pub use mem_sink::{Keep, MemSink};
 pub use mem_source::MemSource;
 pub use mem_store::{Fail, Fails, File, Files, MemStore};

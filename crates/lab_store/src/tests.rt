@@ -1,12 +1,12 @@
 use crate::{
-    Fail, Failed, Files, Keep, MemSink, MemSource, MemStore, Sink, Source, StdSink, StdSource,
-    Store, StoreError,
+    Fail, Failed, Files, FolderStore, Keep, MemSink, MemSource, MemStore, Sink, Source, StdSink,
+    StdSource, Store, StoreError,
 };
 use crdt_laws::{Bytes, List, NoMemory};
 use std::alloc::Global;
-use std::io;
 use std::io::{ErrorKind, Read};
 use std::test::Fail as TestFail;
+use std::{fs, io};
 
 // The values as a list.
 fn listed<T: Copy + Drop>(alloc: Global, values: &[T]) -> Result<List<T>, NoMemory> {
@@ -71,7 +71,7 @@ fn keeps_what_a_failed_write_wrote(rt: HostRuntime) -> Result<(), TestFail> {
 }
 
 // The bytes under the name, or how the fetch failed.
-fn held(alloc: Global, store: &mut MemStore, name: &str) -> Result<Option<u8>, StoreError> {
+fn held<S: Store>(alloc: Global, store: &mut S, name: &str) -> Result<Option<u8>, StoreError> {
     match store.fetch(alloc, name, 1)? {
         Some(bytes) => Ok(bytes.first().copied()),
         None => Ok(None),
@@ -113,6 +113,27 @@ fn fails_early_and_late(rt: HostRuntime) -> Result<(), TestFail> {
     assert_eq!(rt; store.files.get("m"), Some(b"45".as_slice()));
     assert_eq!(rt; store.fetch_faults, 1);
     assert_eq!(rt; store.replace_faults, 2);
+    Ok(())
+}
+
+#[test]
+fn keeps_files_in_a_folder(rt: HostRuntime) -> Result<(), TestFail> {
+    let mut store = FolderStore::of(&rt);
+    assert_eq!(rt; held(rt.alloc(), &mut store, "n"), Ok(None));
+    assert_eq!(rt; store.replace(rt.alloc(), "n", b"12"), Ok(()));
+    assert_eq!(rt; held(rt.alloc(), &mut store, "n"), Err(StoreError::Long));
+    assert_eq!(rt; store.replace(rt.alloc(), "n", b"3"), Ok(()));
+    assert_eq!(rt; held(rt.alloc(), &mut store, "n"), Ok(Some(b'3')));
+    assert_eq!(rt; held(rt.alloc(), &mut store, ".n.new"), Ok(None));
+    assert!(rt; fs::remove_file(&rt, "n").is_ok());
+    assert_eq!(rt; held(rt.alloc(), &mut store, "n"), Ok(None));
+    assert_eq!(rt; held(rt.alloc(), &mut store, "."), Err(StoreError::Failed));
+    assert_eq!(rt;
+        store.replace(rt.alloc(), "n/n", b"4"),
+        Err(StoreError::Failed)
+    );
+    assert_eq!(rt; store.fetch_faults, 1);
+    assert_eq!(rt; store.replace_faults, 1);
     Ok(())
 }
 

@@ -4,7 +4,7 @@
 ghost use Rattle.std.specs.Prelude.{◌≡◌, ◌≢◌};
 ghost use Rattle.std.specs.IoError.{error_kind};
 
-use lab_store::{Fails, Files, MemStore, StdSink, StdSource};
+use lab_store::{FolderStore, StdSink, StdSource};
 use replica_cmd::run;
 use std::alloc::Global;
 use std::env::{self, Env};
@@ -38,7 +38,7 @@ fn main(rt: HostRuntime) -> ExitCode {
         Ok(words) => words,
         Err(error) => return ExitCode::from(status_of(&error)),
     };
-    let mut store = MemStore::of(Files::new(rt.alloc()), Fails::new(rt.alloc()));
+    let mut store = FolderStore::of(&rt);
     let mut source = StdSource::of(rt.reader());
     let mut sink = StdSink::of(io::writer(&rt));
     let status = run(

@@ -1,4 +1,5 @@
 pub mod Bounds
+mod Checking
 pub mod Endings
 pub mod KeptLab
 pub mod Lookups

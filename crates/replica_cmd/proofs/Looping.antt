@@ -17,7 +17,7 @@ use Rattle.lab_model.specs.Lab.{Lab, lab_run, lab_step, pair_members}
 use Rattle.lab_model.proofs.Runs as model
 use Rattle.crdt_laws.specs.Tower.{max_seq}
 use Rattle.replica_cmd.specs.Number.{number_meaning, number_op, NumberOp}
-use Rattle.replica_cmd.specs.Run.{is_refusal, run_refused, run_text, AreFairLines, ArePlayed, IsEnded, Puts}
+use Rattle.replica_cmd.specs.Run.{is_bad, run_refused, run_text, AreFairLines, ArePlayed, IsEnded, Puts}
 use Rattle.replica_cmd.specs.Steps.{outcome, Steps}
 
 -- ---- what is put
@@ -67,7 +67,7 @@ any_push p (t ∷ texts) text = ap (λ b. p t || b) (any_push p texts text) ∙ 
 pub no_texts : (told : Option (List ℕ)) → Puts told told false
 no_texts told = record { texts = []; put = nothing_put told; ended = λ k d l. absurd (omega arith); told = refl }
 
-pub one_more : (start told after : Option (List ℕ)) (refused r : Bool) (text : List ℕ) → Puts start told refused → Appends told after text → IsEnded text → is_refusal text ≡ r
+pub one_more : (start told after : Option (List ℕ)) (refused r : Bool) (text : List ℕ) → Puts start told refused → Appends told after text → IsEnded text → is_bad text ≡ r
     → Puts start after (refused || r)
 one_more start told after refused r text puts put ended refusal = record {
   texts = puts.texts ++ text ∷ [];
@@ -75,7 +75,7 @@ one_more start told after refused r text puts put ended refusal = record {
       subst (Appends start after) (sym (flat_map-append (λ (t : List ℕ). t) puts.texts (text ∷ []) ∙ ap (λ (l : List ℕ). flat_map (λ (t : List ℕ). t) puts.texts ++ l) (append-nil text)))
       (then_put start told after (flat_map (λ (t : List ℕ). t) puts.texts) text puts.put put);
   ended = All-append IsEnded puts.texts (text ∷ []) puts.ended (All-from_recursion IsEnded (text ∷ []) (ended, tt));
-  told = ap₂ (λ a b. a || b) puts.told (sym refusal) ∙ sym (any_push is_refusal puts.texts text);
+  told = ap₂ (λ a b. a || b) puts.told (sym refusal) ∙ sym (any_push is_bad puts.texts text);
 }
 
 -- ---- the runs

@@ -4,7 +4,7 @@ use Rattle.lab_model.specs.Honest.{IsHonestLab}
 use Rattle.std.specs.Prelude.{codes, OnOk, Result, Ok, Err, String}
 use Rattle.std.specs.declared.alloc.Global.{Global}
 use Rattle.lab_model.specs.declared.command.Command.{Command}
-use Rattle.lab_model.specs.declared.command.Command.TheVariants.{New, Edit, Show, Export, Merge, Play}
+use Rattle.lab_model.specs.declared.command.Command.TheVariants.{New, Edit, Show, Export, Merge, Play, Check}
 use Rattle.lab_model.specs.declared.refusal.Refusal.{Refusal}
 use Rattle.lab_model.specs.Lab.{Lab, act_on, effect, lab_step, outcome_of}
 use Rattle.lab_model.specs.Line.{command_of}
@@ -12,15 +12,15 @@ use Rattle.lab_model.specs.Text.{ended, refusal_text, refused_text}
 use Rattle.lab_model.proofs.Commands.{IsReadable, command_readable}
 use Rattle.replica_cmd.specs.Number.{number_meaning, number_op, NumberOp}
 use Rattle.replica_cmd.specs.declared.things.Hindrance.{Hindrance}
-use Rattle.replica_cmd.specs.Run.{is_refusal, IsAccepted}
+use Rattle.replica_cmd.specs.Run.{is_bad, IsAccepted}
 use Rattle.replica_cmd.specs.Steps.{outcome, HasMember, Steps}
 use Rattle.replica_cmd.specs.Things.{IsKeptLab, IsLabUpTo, Keeps}
 use Rattle.replica_cmd.proofs.KeptLab.{lab_up_to_more}
 
-pub accepted_from : (text front : List ℕ) → text ≡ ended front → is_refusal (ended front) ≡ false → IsAccepted text
-accepted_from text front e h = record { ended = (front, e); accepted = ap is_refusal e ∙ h }
+pub accepted_from : (text front : List ℕ) → text ≡ ended front → is_bad (ended front) ≡ false → IsAccepted text
+accepted_from text front e h = record { ended = (front, e); accepted = ap is_bad e ∙ h }
 
-pub refused_is : (cause : Refusal) → is_refusal (refused_text cause) ≡ true
+pub refused_is : (cause : Refusal) → is_bad (refused_text cause) ≡ true
 refused_is cause = refl
 
 on_ok : {T E : Type 0} (r : Result T E) (P : Type 0) → P → OnOk r P
@@ -41,6 +41,7 @@ has_member (Show file) h = tt
 has_member (Export file batch) h = tt
 has_member (Merge file batch) h = tt
 has_member Play h = tt
+has_member (Check table) h = tt
 
 pub member_of_line : (line : List ℕ) (command : Command) → command_of line ≡ Some command → HasMember command
 member_of_line line command e = has_member command (subst IsReadable e (command_readable line))
@@ -62,7 +63,7 @@ pub refused_step : (before after : Lab NumberOp) (line text : List ℕ) (cause :
 refused_step before after line text cause told same done kept = record {
   exact = λ honest. ap₂ (λ l t. outcome l t true) same told ∙ step_refused before line cause (done honest);
   ended = (codes "refused " ++ refusal_text cause, told);
-  refusal = ap is_refusal told ∙ refused_is cause;
+  bad = ap is_bad told ∙ refused_is cause;
   kept = subst IsKeptLab (sym same) kept;
   up_to = λ k h. subst (IsLabUpTo (k + 1)) (sym same) (lab_up_to_more k (k + 1) (omega arith) before h);
 }

@@ -1,9 +1,13 @@
--- The script that a source holds.
+-- The script that a source holds, and the files of a store.
 use Rattle.std.specs.Prelude.{◌≡◌, ℕ, ◌<◌, List, ◌++◌, Option, None, Some, length}
 
 -- the most bytes that a script may have
 abbrev pub most_bytes : ℕ
 most_bytes = 32768
+
+-- the most bytes that a file may have
+abbrev pub most_file_bytes : ℕ
+most_file_bytes = 67108864
 
 -- the bytes read so far, and then what is left, are what the source had, where it tells
 abbrev pub ReadsFrom : Option (List ℕ) → List ℕ → Option (List ℕ) → Type 0

@@ -8,5 +8,6 @@ status_of (Ok false) = 0
 status_of (Ok true) = 2
 status_of (Err stop.NoMemory) = 3
 status_of (Err stop.Source) = 4
+status_of (Err stop.Store) = 4
 status_of (Err stop.Sink) = 6
 status_of (Err stop.Long) = 7

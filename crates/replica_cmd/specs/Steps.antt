@@ -2,11 +2,11 @@
 use Rattle.std.specs.Prelude.{◌≡◌, ℕ, ◌+◌, ◌<◌, List, Bool, Option}
 use Rattle.lab_store.specs.Stream.{Appends}
 use Rattle.lab_model.specs.declared.command.Command.{Command}
-use Rattle.lab_model.specs.declared.command.Command.TheVariants.{New, Edit, Show, Export, Merge, Play}
+use Rattle.lab_model.specs.declared.command.Command.TheVariants.{New, Edit, Show, Export, Merge, Play, Check}
 use Rattle.lab_model.specs.Honest.{IsHonestLab}
 use Rattle.lab_model.specs.Lab.{Lab, Outcome, lab_step, pair_members}
 use Rattle.replica_cmd.specs.Number.{number_meaning, number_op, NumberOp}
-use Rattle.replica_cmd.specs.Run.{is_refusal, IsEnded}
+use Rattle.replica_cmd.specs.Run.{is_bad, IsEnded}
 use Rattle.replica_cmd.specs.Things.{IsKeptLab, IsLabUpTo}
 
 -- the member that a command names is one of the document
@@ -17,6 +17,7 @@ HasMember (Show file) = Unit {0}
 HasMember (Export file batch) = Unit {0}
 HasMember (Merge file batch) = Unit {0}
 HasMember Play = Unit {0}
+HasMember (Check table) = Unit {0}
 
 abbrev pub outcome : Lab NumberOp → List ℕ → Bool → Outcome number_meaning number_op
 outcome lab text refused = record { lab = lab; text = text; refused = refused }
@@ -25,7 +26,7 @@ outcome lab text refused = record { lab = lab; text = text; refused = refused }
 pub record Steps (before after : Lab NumberOp) (line text : List ℕ) (refused : Bool) : Type 0 where
   pub exact : IsHonestLab number_meaning before → outcome after text refused ≡ lab_step number_meaning number_op before line
   pub ended : IsEnded text
-  pub refusal : is_refusal text ≡ refused
+  pub bad : is_bad text ≡ refused
   pub kept : IsKeptLab after
   pub up_to : (k : ℕ) → IsLabUpTo k before → IsLabUpTo (k + 1) after
 

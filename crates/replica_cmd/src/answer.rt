@@ -1,6 +1,7 @@
 //! What a line does to a lab, and what it prints.
-ghost use Rattle.std.specs.Prelude.{◌≡◌, string_bytes, IfOk};
+ghost use Rattle.std.specs.Prelude.{◌≡◌, true, string_bytes, IfOk};
 ghost use Rattle.lab_model.specs.Text.{refused_text};
+ghost use Rattle.replica_cmd.specs.Run.{IsSaid};
 
 use crate::lab::Lab;
 use crate::number::op_of;
@@ -15,6 +16,18 @@ use std::alloc::Global;
 pub(crate) struct Reply {
     pub(crate) text: String,
     pub(crate) refused: bool,
+}
+
+/// A refusal.
+pub(crate) fn refusal_of(alloc: Global, cause: &Refusal) -> Result<Reply, NoMemory>
+    ensures text { IfOk result (λ reply. string_bytes reply.text ≡ refused_text cause.now) }
+    ensures refused { IfOk result (λ reply. reply.refused ≡ true) }
+    ensures said { IfOk result (λ reply. IsSaid (string_bytes reply.text) reply.refused) }
+{
+    Ok(Reply {
+        text: text_of_refusal(alloc, cause)?,
+        refused: true,
+    })
 }
 
 /// The text of a refusal.
@@ -49,7 +62,7 @@ impl Lab {
             Command::Show { file } => self.show(alloc, file),
             Command::Export { file, batch } => self.export(alloc, file, batch),
             Command::Merge { file, batch } => self.merge(alloc, file, batch),
-            Command::Play => Err(Hindrance::Refused(Refusal::Unbuilt)),
+            Command::Play | Command::Check { .. } => Err(Hindrance::Refused(Refusal::Unbuilt)),
         }
     }
 

@@ -3,6 +3,7 @@
 
 mod answer;
 mod call;
+mod check;
 mod handlers;
 mod lab;
 mod lines;

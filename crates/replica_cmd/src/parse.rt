@@ -17,12 +17,12 @@ pub(crate) fn command_of(alloc: Global, line: &[u8]) -> Result<Option<Command>, 
 }
 
 /// The command of these words.
-fn command_of_words(alloc: Global, words: &[&[u8]]) -> Result<Option<Command>, NoMemory>
+pub(crate) fn command_of_words(alloc: Global, words: &[&[u8]]) -> Result<Option<Command>, NoMemory>
     ensures { IfOk result (λ command. command ≡ command_of_words (map (λ word. word.now) words.now)) }
 {
     match words {
         [verb] => Ok(play_of(verb)),
-        [verb, file] => show_of(alloc, verb, file),
+        [verb, file] => look_of(alloc, verb, file),
         [verb, file, batch] => exchange_of(alloc, verb, file, batch),
         [verb, file, member, schema] => new_of(alloc, verb, file, member, schema),
         [verb, file, field, action, number] => edit_of(alloc, verb, file, field, action, number),
@@ -41,14 +41,20 @@ fn play_of(verb: &[u8]) -> Option<Command>
     }
 }
 
-/// The command `show`, where the words are one.
-fn show_of(alloc: Global, verb: &[u8], file: &[u8]) -> Result<Option<Command>, NoMemory>
+/// The command `show` or `check`, where the words are one.
+fn look_of(alloc: Global, verb: &[u8], file: &[u8]) -> Result<Option<Command>, NoMemory>
     ensures { IfOk result (λ command. command ≡ command_of_words (verb.now ∷ file.now ∷ [])) }
 {
-    if verb != b"show".as_slice() {
+    let Some(file) = name_of(alloc, file)? else {
         return Ok(None);
+    };
+    if verb == b"show".as_slice() {
+        Ok(Some(Command::Show { file }))
+    } else if verb == b"check".as_slice() {
+        Ok(Some(Command::Check { table: file }))
+    } else {
+        Ok(None)
     }
-    Ok(name_of(alloc, file)?.map(|file| Command::Show { file }))
 }
 
 /// The command `export` or `merge`, where the words are one.

@@ -65,6 +65,7 @@ pub(crate) fn play<S: Source, W: Sink>(
     ensures nothing { IsErrOf result Stop.Source ⊎ IsErrOf result Stop.Long → W.told sink.new ≡ W.told sink.old }
     ensures source_fault { IsErrOf result Stop.Source → Rose (S.faults source.old) (S.faults source.new) }
     ensures sink_fault { IsErrOf result Stop.Sink → Rose (W.faults sink.old) (W.faults sink.new) }
+    ensures not_the_store { IsErrOf result Stop.Store → ⊥ }
 {
     let script = script_of(alloc, source)?;
     let lines = lines_of(alloc, script.as_slice())?;

@@ -8,9 +8,11 @@ pub(crate) enum Stop {
     NoMemory,
     /// The source failed.
     Source,
+    /// The store failed.
+    Store,
     /// The sink failed.
     Sink,
-    /// The script has more bytes than a script may have.
+    /// The script, or a file, has more bytes than it may have.
     Long,
 }
 

@@ -1,6 +1,6 @@
 use super::run;
 use crdt_laws::{Bytes, List, NoMemory};
-use lab_store::{Fails, Files, Keep, MemSink, MemSource, MemStore};
+use lab_store::{Fail as Fault, Fails, Files, Keep, MemSink, MemSource, MemStore};
 use std::alloc::Global;
 use std::test::Fail;
 
@@ -133,6 +133,11 @@ fn refuses_words(rt: HostRuntime) -> Result<(), Fail> {
         &["show", "a"],
         &[""],
         &["play "],
+        &["check"],
+        &["check a"],
+        &["check", ".a"],
+        &["check", "a", "b"],
+        &["Check", "a"],
     ] {
         let (status, put) = told(rt.alloc(), words, b"new a 0 @pair\n")?;
         assert_eq!(rt; put.as_slice(), b"refused unbuilt\n".as_slice());
@@ -189,5 +194,108 @@ fn meets_faults(rt: HostRuntime) -> Result<(), Fail> {
         assert_eq!(rt; status, want);
         assert_eq!(rt; put.as_slice(), text.as_bytes());
     }
+    Ok(())
+}
+
+// What a check of a table tells, where its text is in the file t or there is no file: the status, the bytes that it put, and
+// how many fetches failed.
+fn checked(
+    alloc: Global,
+    text: Option<&[u8]>,
+    faults: &[Fault],
+    puts: &[Keep],
+) -> Result<(u8, Vec<u8>, u64), NoMemory> {
+    let mut files = Files::new(alloc);
+    if let Some(text) = text {
+        files.put(alloc, "t", text)?;
+    }
+    let mut store = MemStore::of(files, listed(alloc, faults)?);
+    let nothing = Bytes {
+        items: Vec::new(alloc),
+    };
+    let mut source = MemSource::of(nothing, 1, List::new(alloc));
+    let mut sink = MemSink::of(alloc, listed(alloc, puts)?);
+    let mut words = Vec::new(alloc);
+    for word in ["check", "t"] {
+        words.push(String::from_str(alloc, word)?)?;
+    }
+    let status = run(alloc, words.as_slice(), &mut store, &mut source, &mut sink);
+    Ok((status, sink.bytes, store.fetch_faults))
+}
+
+// The flag that is on where it is switched on and off at once.
+const ON_FLAG: &str =
+    "{\"ops\":[{\"act\":[0,1,2],\"level\":1,\"name\":\"none\",\"next\":[0,1]},{\"act\":[0,1,2],\"level\":1,\"name\":\"off\",\"next\":[0,0]},{\"act\":[0,0,2],\"level\":2,\"name\":\"on\",\"next\":[1,1]}],\"start\":0,\"states\":[\"off\",\"on\"]}";
+
+#[test]
+fn checks_tables(rt: HostRuntime) -> Result<(), Fail> {
+    for (text, status, want) in [
+        (ON_FLAG, 0, "lawful\n"),
+        // two operations of one level that lead to two states
+        (
+            "{\"ops\":[{\"act\":[0,1],\"level\":1,\"name\":\"zero\",\"next\":[0,0]},{\"act\":[0,1],\"level\":1,\"name\":\"one\",\"next\":[1,1]}],\"start\":0,\"states\":[\"a\",\"b\"]}",
+            2,
+            "broken 2 0 1 0\n",
+        ),
+        // three levels, of which the highest does not distribute
+        (
+            "{\"ops\":[{\"act\":[0,1,2,3],\"level\":1,\"name\":\"x\",\"next\":[0]},{\"act\":[0,1,2,3],\"level\":1,\"name\":\"v\",\"next\":[0]},{\"act\":[1,1,2,3],\"level\":2,\"name\":\"y\",\"next\":[0]},{\"act\":[0,0,2,3],\"level\":3,\"name\":\"z\",\"next\":[0]}],\"start\":0,\"states\":[\"s\"]}",
+            2,
+            "broken 5 3 2 0\n",
+        ),
+        ("{", 2, "refused table not-json\n"),
+        ("[]", 2, "refused table form\n"),
+        (
+            "{\"ops\":[],\"start\":0,\"states\":[\"A\"]}",
+            2,
+            "refused table name\n",
+        ),
+        (
+            "{\"ops\":[],\"start\":0,\"states\":[\"a\",\"a\"]}",
+            2,
+            "refused table twice\n",
+        ),
+        (
+            "{\"ops\":[],\"start\":0,\"states\":[\"a\"]}",
+            2,
+            "refused table size\n",
+        ),
+        (
+            "{\"ops\":[{\"act\":[0],\"level\":9,\"name\":\"x\",\"next\":[0]}],\"start\":0,\"states\":[\"a\"]}",
+            2,
+            "refused table level\n",
+        ),
+        (
+            "{\"ops\":[{\"act\":[1],\"level\":1,\"name\":\"x\",\"next\":[0]}],\"start\":0,\"states\":[\"a\"]}",
+            2,
+            "refused table entry 1\n",
+        ),
+    ] {
+        let told = checked(rt.alloc(), Some(text.as_bytes()), &[], &[])?;
+        assert_eq!(rt; told.0, status);
+        assert_eq!(rt; told.1.as_slice(), want.as_bytes());
+    }
+    let (status, put, faults) = checked(rt.alloc(), None, &[], &[])?;
+    assert_eq!(rt; put.as_slice(), b"refused missing t\n".as_slice());
+    assert_eq!(rt; status, 2);
+    assert_eq!(rt; faults, 0);
+    Ok(())
+}
+
+#[test]
+fn meets_faults_of_a_check(rt: HostRuntime) -> Result<(), Fail> {
+    let text = Some(ON_FLAG.as_bytes());
+    let fault = Fault {
+        call: 0,
+        late: false,
+    };
+    let (status, put, faults) = checked(rt.alloc(), text, &[fault], &[])?;
+    assert_eq!(rt; put.len(), 0);
+    assert_eq!(rt; status, 4);
+    assert_eq!(rt; faults, 1);
+    let keep = Keep { call: 0, kept: 3 };
+    let (status, put, _) = checked(rt.alloc(), text, &[], &[keep])?;
+    assert_eq!(rt; put.as_slice(), b"law".as_slice());
+    assert_eq!(rt; status, 6);
     Ok(())
 }

@@ -23,6 +23,7 @@ fn reads_commands(rt: HostRuntime) -> Result<(), Fail> {
         ("export a b", "export a, b"),
         ("merge a b", "merge a, b"),
         ("play", "play"),
+        ("check lamp.json", "check lamp.json"),
         (
             "show aaaaaaaaaaaaaaaabbbbbbbbbbbbbbbbccccccccccccccccdddddddddddddddd",
             "show aaaaaaaaaaaaaaaabbbbbbbbbbbbbbbbccccccccccccccccdddddddddddddddd",
@@ -133,6 +134,7 @@ fn told(alloc: Global, line: &[u8]) -> Result<String, Fail> {
         Some(Command::Export { file, batch }) => format!(in alloc; "export {file}, {batch}")?,
         Some(Command::Merge { file, batch }) => format!(in alloc; "merge {file}, {batch}")?,
         Some(Command::Play) => String::from_str(alloc, "play")?,
+        Some(Command::Check { table }) => format!(in alloc; "check {table}")?,
     };
     Ok(told)
 }

@@ -46,7 +46,7 @@ loop-line-preserved g c =
     record {
       kept = s.steps.kept;
       up_to = s.steps.up_to i c.loop-line.invariant.up_to;
-      puts = one_more start told after c.loop-line.refused c.in_ok-is_refused.is_refused s.text c.loop-line.invariant.puts s.put s.steps.ended s.steps.refusal;
+      puts = one_more start told after c.loop-line.refused c.in_ok-is_refused.is_refused s.text c.loop-line.invariant.puts s.put s.steps.ended s.steps.bad;
       follows = λ fair.
           follows_next lines _ (drop (i + 1) lines) i (contents c.loop-line.lab) (contents c.run_line.new.lab) start told after c.loop-line.refused c.in_ok-is_refused.is_refused s.text
           (omega arith)

@@ -13,7 +13,7 @@ returns-in-Ok c =
     record {
       exact = λ honest. step_ok (contents c.args.self.now) (contents c.attempt.new.self) c.args.line.now (string_bytes c.in-Ok.text) (e.answers honest);
       ended = e.said.ended;
-      refusal = e.said.accepted;
+      bad = e.said.accepted;
       kept = e.keeps.kept;
       up_to = e.keeps.up_to;
     }

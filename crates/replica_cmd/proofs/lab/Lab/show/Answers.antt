@@ -1,4 +1,9 @@
 use Rattle.std.proofs.Common.{◌≡◌, Some, sym, ◌∙◌, ap, subst, inl, refl}
+use Rattle.std.specs.Prelude.{codes, string_bytes}
+use Rattle.serde_json.specs.Data.{member, no_members, object}
+use Rattle.serde_json.specs.View.{view}
+use Rattle.serde_json.specs.Written.{compact_text}
+use Rattle.replica_cmd.proofs.Stepping.{accepted_from}
 use Rattle.crdt_laws.specs.Document.{MakesDocument}
 use Rattle.replica_model.specs.Family as family
 use Rattle.replica_model.specs.Replica.{Replica, members}
@@ -20,3 +25,8 @@ document-requires c =
     let found : thing_at lab c.args.file ≡ Some (family.replica r) = sym c.in-Some-Replica.ensures ∙ ap (λ t. Some (thing_of t)) c.in-Some-Replica.field-0-is in
     let kept = kept_at lab c.args.file (family.replica r) c.requires.kept found in
     subst (MakesDocument number_meaning) (sym (ap (λ (q : Replica NumberOp). q.delivered) c.replica.view_is)) (makes r kept.0)
+
+pub returns-clause-said : goal.returns-clause-said
+returns-clause-said c =
+    accepted_from (string_bytes c.in_ok-text_of_document.field-0) (compact_text (object (member (codes "n") (view c.in_ok-shown.shown) no_members)))
+    c.in_ok-text_of_document.ensures refl
