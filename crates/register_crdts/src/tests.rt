@@ -82,13 +82,21 @@ fn shows_after_sets_in_each_order(rt: HostRuntime) -> Result<(), Fail> {
     assert_eq!(rt; shown(alloc, &Several, &[])?.as_str(), "[]");
     for sets in [[lion, swan], [swan, lion]] {
         assert_eq!(rt; shown(alloc, &Latest, &sets)?.as_str(), r#""Swan""#);
-        assert_eq!(rt; shown(alloc, &Several, &sets)?.as_str(), r#"["Lion","Swan"]"#);
+        assert_eq!(rt;
+            shown(alloc, &Several, &sets)?.as_str(),
+            r#"["Lion","Swan"]"#
+        );
     }
     for sets in [[lion, swan, bear], [swan, lion, bear]] {
         assert_eq!(rt; shown(alloc, &Latest, &sets)?.as_str(), r#""Bear""#);
         assert_eq!(rt; shown(alloc, &Several, &sets)?.as_str(), r#"["Bear"]"#);
     }
-    for sets in [[lion, bear, swan], [bear, swan, lion], [bear, lion, swan], [swan, bear, lion]] {
+    for sets in [
+        [lion, bear, swan],
+        [bear, swan, lion],
+        [bear, lion, swan],
+        [swan, bear, lion],
+    ] {
         assert_eq!(rt; shown(alloc, &Latest, &sets)?.as_str(), r#""Bear""#);
     }
     Ok(())
@@ -133,8 +141,16 @@ fn texts_have_limits(rt: HostRuntime) -> Result<(), Fail> {
         (1_000_001, b"a".as_slice(), 1, false),
     ];
     for (seq, bytes, times, valid) in rows {
-        assert_eq!(rt; is_valid(alloc, &Latest, seq, bytes, times)?, valid, "{seq} {times}");
-        assert_eq!(rt; is_valid(alloc, &Several, seq, bytes, times)?, valid, "{seq} {times}");
+        assert_eq!(rt;
+            is_valid(alloc, &Latest, seq, bytes, times)?,
+            valid,
+            "{seq} {times}"
+        );
+        assert_eq!(rt;
+            is_valid(alloc, &Several, seq, bytes, times)?,
+            valid,
+            "{seq} {times}"
+        );
     }
     Ok(())
 }
@@ -150,11 +166,7 @@ fn acted<T: Tower<Op = Txt>>(alloc: Global, tower: &T, y: &Txt, x: &Txt) -> Resu
 }
 
 // What is shown of a copy of the settled state after one set.
-fn shown_settled<T: Tower<Op = Txt>>(
-    alloc: Global,
-    tower: &T,
-    op: &Txt,
-) -> Result<String, NoMemory>
+fn shown_settled<T: Tower<Op = Txt>>(alloc: Global, tower: &T, op: &Txt) -> Result<String, NoMemory>
     requires { IsTrue (T.meaning tower.now).plain }
 {
     let state = after(alloc, tower, tower.init(alloc)?, 0, op)?;
@@ -174,6 +186,9 @@ fn keeps_texts(rt: HostRuntime) -> Result<(), Fail> {
     assert!(rt; Latest.same_op(&lion, &acted(alloc, &Latest, &swan, &lion)?));
     assert!(rt; Several.same_op(&lion, &acted(alloc, &Several, &swan, &lion)?));
     assert_eq!(rt; shown_settled(alloc, &Latest, &lion)?.as_str(), r#""Lion""#);
-    assert_eq!(rt; shown_settled(alloc, &Several, &lion)?.as_str(), r#"["Lion"]"#);
+    assert_eq!(rt;
+        shown_settled(alloc, &Several, &lion)?.as_str(),
+        r#"["Lion"]"#
+    );
     Ok(())
 }
