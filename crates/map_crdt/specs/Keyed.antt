@@ -84,6 +84,7 @@ module _ {S O : Type 0} (m : Meaning S O) where
   holds_any [] p = ⊥
   holds_any (e ∷ es) p = m.holds e.state p ⊎ holds_any es p
 
+  -- A map is at first empty. Operations have the levels that they have in the tower of the states.
   abbrev pub keyed_meaning : Meaning (List (KeyState S)) (KeyOp O)
   keyed_meaning = record {
     top = m.top;

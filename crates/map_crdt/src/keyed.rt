@@ -12,14 +12,14 @@ use std::marker::Model;
 use vector_clock::{Clock, Stamp};
 
 /// A key of a map with its state.
-#[derive(Drop)]
+#[derive(Debug, Drop)]
 pub struct KeyState<S> {
     pub key: Txt,
     pub state: S,
 }
 
 /// The keys that are present with their states, by strictly rising key in the order of bytes. Contracts see their list.
-#[derive(Drop)]
+#[derive(Debug, Drop)]
 pub struct KeyMap<S> {
     pub pairs: List<KeyState<S>>,
 }
@@ -34,7 +34,7 @@ impl<S> Model for KeyMap<S> {
 }
 
 /// An operation on one key, of the level that it has in the tower of the states.
-#[derive(Drop)]
+#[derive(Debug, Drop)]
 pub struct KeyOp<Op> {
     /// 1 to 256 bytes of UTF-8.
     pub key: Txt,

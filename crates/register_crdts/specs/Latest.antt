@@ -47,15 +47,17 @@ pub record IsSetOf (n : ℕ) (s : Set) : Type 0 where
   pub key : IsKeyOf n s.key
   pub text : IsText s.text
 
+-- what is kept is a set of the document
 abbrev pub latest_good : ℕ → Option Set → Type 0
 latest_good n None = Unit {0}
 latest_good n (Some s) = IsSetOf n s
 
--- the clock covers the operation that set the text
+-- and the clock covers the operation that set it
 abbrev pub latest_good_at : Clock → Option Set → Type 0
 latest_good_at d None = Unit {0}
 latest_good_at d (Some s) = IsSetOf d.n s × IsTrue (covers d (id_of_key s.key))
 
+-- Sets are of one level, and settling changes nothing. An operation is a text.
 abbrev pub latest_meaning : Meaning (Option Set) (List ℕ)
 latest_meaning = record {
   top = 1;

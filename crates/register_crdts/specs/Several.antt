@@ -40,6 +40,7 @@ abbrev pub AreRising : List Held → Type 0
 AreRising [] = Unit {0}
 AreRising (h ∷ hs) = AllByRecursion (λ g. IsTrue (is_below h.stamp g.stamp)) hs × AreRising hs
 
+-- the sets of a document with n members, by key
 pub record IsSeveralOf (n : ℕ) (s : List Held) : Type 0 where
   pub rising : AreRising s
   pub sets : AllByRecursion (IsHeldOf n) s
@@ -53,6 +54,7 @@ pub record IsKnownTo (d : Clock) (h : Held) : Type 0 where
 abbrev pub several_show : List Held → Data
 several_show s = array (items_of (map (λ h. string h.text) s))
 
+-- Sets are of one level, and settling changes nothing. An operation is a text. The sets that stay are no log: none is held.
 abbrev pub several_meaning : Meaning (List Held) (List ℕ)
 several_meaning = record {
   top = 1;

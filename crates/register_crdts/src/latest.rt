@@ -5,7 +5,7 @@ use std::alloc::Global;
 use vector_clock::{Clock, Key, Stamp};
 
 /// A text that was set, with the key of the operation that set it.
-#[derive(Drop)]
+#[derive(Debug, Drop)]
 pub struct Set {
     pub key: Key,
     pub text: Txt,

@@ -11,7 +11,7 @@ use std::alloc::Global;
 use vector_clock::{Clock, Key, Stamp};
 
 /// A text that was set, with the stamp of the operation that set it.
-#[derive(Drop)]
+#[derive(Debug, Drop)]
 pub struct Held {
     pub stamp: Stamp,
     pub text: Txt,
