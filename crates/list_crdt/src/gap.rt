@@ -110,7 +110,7 @@ pub fn between(
 {
     let (low, high) = (steps_of(p), steps_of(q));
     let (depth, digit) = parting(low, high);
-    if depth >= 32 {
+    if depth >= Position::MAX_STEPS {
         return Err(ListError::PositionFull {
             steps: depth as u32 + 1,
         });

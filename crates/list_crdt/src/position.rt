@@ -119,6 +119,9 @@ impl Ord for Position {
 }
 
 impl Position {
+    /// The most steps that a position may have.
+    pub const MAX_STEPS: usize = 32;
+
     /// Whether this is a position of a document with `n` members: it has 1 to 32 steps, each of which is a pad or names an
     /// operation of a member, and the last one is no pad.
     pub fn is_of(&self, n: u8) -> bool
@@ -126,7 +129,7 @@ impl Position {
         ensures position { IsTrue result → IsPosition self.now }
     {
         let steps = self.steps.items.as_slice();
-        if steps.len() > 32 {
+        if steps.len() > Self::MAX_STEPS {
             return false;
         }
         match steps.split_last() {

@@ -5,8 +5,8 @@ use Rattle.list_crdt.proofs.Next.{made_between, made_maker, made_position, made_
 use Rattle.list_crdt.proofs.Levels.{length_between, length_next}
 use Rattle.list_crdt.proofs.gap.between.Goals as goal
 
-pub returns-then-depth-ge32-clause-full : goal.returns-then-depth-ge32-clause-full
-returns-then-depth-ge32-clause-full c =
+pub returns-then-depth-ge-MAX_STEPS-clause-full : goal.returns-then-depth-ge-MAX_STEPS-clause-full
+returns-then-depth-ge-MAX_STEPS-clause-full c =
     let long = length_between c.args.member c.args.seq (option_copied c.args.p) (option_copied c.args.q) _ _ _ _ c.steps_of-low.ensures c.steps_of-high.ensures (c.parting-depth.ensures.next c.args.member c.args.seq) in
     λ k. (λ e. (let is : c.parting-depth.result.0 + 1 ≡ k = cc in (omega (arith, long), omega (arith, long, is))), λ h. (let is : c.parting-depth.result.0 + 1 ≡ k = omega (arith, long, h.1) in cc))
 
