@@ -273,3 +273,6 @@ fn one_document_whoever_does_what(rt: HostRuntime) -> Result<(), Fail> {
     }
     Ok(())
 }
+
+mod flags;
+mod maps;

@@ -8,7 +8,9 @@ ghost use Rattle.semidirect_product.specs.Stack.{stack_meaning};
 ghost use Rattle.number_crdts.specs.Number.{add_meaning, mul_action};
 
 use super::*;
-use crdt_laws::{Entry, NoMemory, Ops, Tower};
+use crdt_laws::{Entry, List, NoMemory, Ops, Tower, Txt};
+use list_crdt::{Position, Step, Text, TextOp};
+use map_crdt::{KeyOp, Keyed};
 use number_crdts::{Add, Number, number};
 use semidirect_product::{MaybeOp, StackOp};
 use std::alloc::Global;
@@ -226,5 +228,78 @@ fn cuts_before_what_is_concurrent(rt: HostRuntime) -> Result<(), Fail> {
         let cut = clean_cut(&ops, &clock_of(first, second));
         assert_eq!(rt; cut, length, "{first} {second}");
     }
+    Ok(())
+}
+
+// An operation that adds to the number at a key.
+fn adds_at(
+    alloc: Global,
+    key: &str,
+    n: u64,
+) -> Result<ObservedOp<KeyOp<StackOp<u64, u64>>>, NoMemory> {
+    let key = Txt {
+        items: Vec::from_slice(alloc, key.as_bytes())?,
+    };
+    Ok(ObservedOp::Do(KeyOp {
+        key,
+        op: StackOp::Low(n),
+    }))
+}
+
+// A member adds at two keys. The other one knew of the first addition, and resets.
+#[test]
+fn forgets_numbers_by_key(rt: HostRuntime) -> Result<(), Fail> {
+    let alloc = rt.alloc();
+    let tower = Observed::of(Keyed::of(number()));
+    let ops = with_next(
+        &tower,
+        Ops::new(alloc),
+        first_at(1, 0),
+        adds_at(alloc, "ann", 5)?,
+    )?;
+    let ops = with_next(&tower, ops, first_at(2, 0), adds_at(alloc, "bob", 2)?)?;
+    let state = folded(alloc, &tower, &ops)?;
+    assert_eq!(rt;
+        shown(alloc, &tower, &state)?.as_str(),
+        r#"{"ann":5,"bob":2}"#
+    );
+    let ops = with_next(&tower, ops, second_at(1, 1), ObservedOp::Reset)?;
+    let state = folded(alloc, &tower, &ops)?;
+    assert_eq!(rt; shown(alloc, &tower, &state)?.as_str(), r#"{"bob":2}"#);
+    Ok(())
+}
+
+// The insert of a character by an operation of the first member, at a position of one step.
+fn inserts(alloc: Global, digit: u16, seq: u32, ch: char) -> Result<ObservedOp<TextOp>, NoMemory> {
+    let step = Step {
+        digit,
+        member: 0,
+        seq,
+    };
+    let at = Position {
+        steps: List {
+            items: Vec::from_slice(alloc, &[step])?,
+        },
+    };
+    Ok(ObservedOp::Do(TextOp::Insert { at, ch }))
+}
+
+// The same with two characters of a text.
+#[test]
+fn forgets_characters(rt: HostRuntime) -> Result<(), Fail> {
+    let alloc = rt.alloc();
+    let tower = Observed::of(Text);
+    let ops = with_next(
+        &tower,
+        Ops::new(alloc),
+        first_at(1, 0),
+        inserts(alloc, 9, 1, 'b')?,
+    )?;
+    let ops = with_next(&tower, ops, first_at(2, 0), inserts(alloc, 8, 2, 'a')?)?;
+    let state = folded(alloc, &tower, &ops)?;
+    assert_eq!(rt; shown(alloc, &tower, &state)?.as_str(), r#""ab""#);
+    let ops = with_next(&tower, ops, second_at(1, 1), ObservedOp::Reset)?;
+    let state = folded(alloc, &tower, &ops)?;
+    assert_eq!(rt; shown(alloc, &tower, &state)?.as_str(), r#""a""#);
     Ok(())
 }
