@@ -1,12 +1,39 @@
-//! Flags and ladders are tables of `action_tables`, which its checker tells lawful. Each law is the contract of a function that
-//! does nothing.
+//! Flags and choices are lawful towers, and tables of `action_tables`, which its checker tells lawful. Each law is the contract of
+//! a function that does nothing, or only cites the law that every tower proves.
 ghost use Rattle.std.specs.Prelude.{◌≡◌, ℕ, ◌*◌, ◌<◌};
-ghost use Rattle.action_tables.specs.Table.{IsTable, act_of, level_of, next_of};
+ghost use Rattle.crdt_laws.specs.Tower.{IsLawful};
+ghost use Rattle.action_tables.specs.Table.{IsTable, act_of, level_of, next_of, table_meaning};
 ghost use Rattle.action_tables.specs.Verdict.{IsVerdict};
-ghost use Rattle.flag_crdts.specs.Flags.{off_table, on_table};
-ghost use Rattle.flag_crdts.specs.Ladder.{IsLadderSize, ladder_act, ladder_level, ladder_next, ladder_table};
+ghost use Rattle.flag_crdts.specs.Choice.{size_of};
+ghost use Rattle.flag_crdts.specs.Flags.{fixed_table, off_table, on_table};
+ghost use Rattle.flag_crdts.specs.Ladder.{IsLadderSize, ladder_act, ladder_level, ladder_meaning, ladder_next, ladder_table};
 
+use crate::choice::Choice;
+use crate::flag::Fixed;
+use crate::ladder::Ladder;
 use action_tables::Verdict;
+use crdt_laws::is_lawful;
+
+/// A flag is a lawful tower.
+pub fn flag_is_lawful(flag: &Fixed<2, 3>)
+    ensures { IsLawful (table_meaning (fixed_table 2 flag.now.level flag.now.next flag.now.act)) }
+{
+    is_lawful(flag);
+}
+
+/// A ladder is a lawful tower, whatever its number of values.
+pub fn ladder_is_lawful<const N: usize>(ladder: &Ladder<N>)
+    ensures { IsLawful (ladder_meaning N) }
+{
+    is_lawful(ladder);
+}
+
+/// A choice is a lawful tower.
+pub fn choice_is_lawful(choice: &Choice)
+    ensures { IsLawful (ladder_meaning (size_of choice.now)) }
+{
+    is_lawful(choice);
+}
 
 /// The tables of both flags are lawful.
 pub fn flags_are_lawful()
