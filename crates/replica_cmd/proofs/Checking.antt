@@ -1,17 +1,14 @@
 -- What is found of a table, and said.
-use Rattle.std.proofs.Common.{◌≡◌, ℕ, Bool, true, List, ◌++◌, refl, inl, inr, ap, ◌∙◌, subst, sym}
-use Rattle.std.specs.Prelude.{◌≢◌, codes, IfOk, Result, Ok, Err, string_bytes}
+use Rattle.std.proofs.Common.{◌≡◌, ℕ, Bool, true, List, ◌++◌, refl, inr, ap, ◌∙◌, subst, sym}
+use Rattle.std.specs.Prelude.{codes, IfOk, Result, Ok, Err, string_bytes}
 use Rattle.std.specs.Fmt.{decimal}
 use Rattle.action_tables.specs.Table.{ActionTable}
-use Rattle.action_tables.specs.TableText.{HasTextFault, Spells}
+use Rattle.action_tables.specs.TableText.{Spells}
 use Rattle.action_tables.specs.Verdict.{IsVerdict}
-use Rattle.action_tables.specs.declared.named.TableFault.{TableFault}
-use Rattle.action_tables.specs.declared.named.TableFault.TheVariants.{NoMemory}
 use Rattle.action_tables.specs.declared.table.Verdict.{Verdict}
 use Rattle.action_tables.specs.declared.table.Verdict.TheVariants.{Lawful, Broken}
 use Rattle.crdt_laws.specs.declared.small.NoMemory as memory
 use Rattle.lab_model.specs.declared.refusal.Refusal.{Refusal}
-use Rattle.lab_model.specs.declared.refusal.Refusal.TheVariants.{Table}
 use Rattle.lab_model.specs.Text.{refusal_text, refused_text, verdict_text}
 use Rattle.replica_cmd.specs.declared.answer.Reply.{Reply}
 use Rattle.replica_cmd.specs.Check.{IsFinding, is_broken}
@@ -41,10 +38,3 @@ pub found_verdict : (bytes : List ℕ) (table : ActionTable) (states ops : List 
 found_verdict bytes table states ops v (Ok reply) spelled found said told =
     inr (record { table = table; states = states; ops = ops; spelled = spelled; verdict = v; found = found; said = said; told = told })
 found_verdict bytes table states ops v (Err e) spelled found said told = tt
-
-pub found_fault : (bytes : List ℕ) (fault : TableFault) (r : Result Reply memory.NoMemory) → HasTextFault bytes fault → fault ≢ NoMemory
-    → IfOk r (λ reply. string_bytes reply.text ≡ refused_text (Table fault)) → IfOk r (λ reply. reply.refused ≡ true)
-    → IfOk r (λ reply. IsFinding bytes (string_bytes reply.text) reply.refused)
-found_fault bytes fault (Ok reply) found of_text said told =
-    inl (record { fault = fault; found = found; of_text = of_text; said = said; told = told })
-found_fault bytes fault (Err e) found of_text said told = tt

@@ -1,6 +1,6 @@
 -- How calls end.
-use Rattle.std.proofs.Common.{◌≡◌, ◌⊎◌, inl, inr, subst, ℕ, ◌≤◌, ◌<◌, Bool, true, false, List, [], ◌∷◌, Option, Some, refl, ap, sym, ◌∙◌, arith, length, get_or, map}
-use Rattle.std.specs.Prelude.{◌==◌, None, IfOk, IsErrOf, IsOk, OnErr, Result, Ok, Err, codes}
+use Rattle.std.proofs.Common.{◌≡◌, ◌⊎◌, inl, inr, subst, ℕ, ◌≤◌, ◌<◌, Bool, true, false, List, Option, Some, refl, sym, arith, length}
+use Rattle.std.specs.Prelude.{◌==◌, None, IfOk, IsErrOf, IsOk, OnErr, Result, Ok, Err}
 use Rattle.lab_store.specs.Stream.{Appends, AppendsPart}
 use Rattle.lab_model.specs.Line.{command_of_words, lines_of}
 use Rattle.lab_model.specs.declared.command.Command.{Command}

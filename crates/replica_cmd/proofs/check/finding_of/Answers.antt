@@ -1,4 +1,4 @@
-use Rattle.replica_cmd.proofs.Checking.{found_fault, found_verdict}
+use Rattle.replica_cmd.proofs.Checking.{found_verdict}
 use Rattle.replica_cmd.proofs.check.finding_of.Goals as goal
 
 pub returns-in-Ok-clause-finding : goal.returns-in-Ok-clause-finding
