@@ -14,7 +14,7 @@ use Rattle.list_crdt.specs.declared.position.Step.{Step}
 use Rattle.list_crdt.specs.declared.text.Cell.{Cell}
 use Rattle.list_crdt.specs.Position.{IsBefore, position_cmp}
 use Rattle.list_crdt.specs.Order.{position_total, same_position}
-use Rattle.list_crdt.specs.Text.{IsRising, after, before, with_at}
+use Rattle.list_crdt.specs.Text.{IsRising, after, before, with_at, stands_after}
 use Rattle.list_crdt.specs.Places.{IsGapAt, IsStandingAt}
 
 -- a test that holds just of what stands before an index, or from it on
@@ -71,7 +71,7 @@ module _ (p : List Step) (s : List Cell) (rising : IsRising s) where
   back_is : (i : ℕ) → ((k : ℕ) (d : Cell) → k < i → k < length s → is_gt (order (get_or s k d)) ≡ false)
       → ((k : ℕ) (d : Cell) → i ≤ k → k < length s → order (get_or s k d) ≡ Greater) → after p s ≡ drop i s
   back_is i fails passes =
-      filter-drop (λ (c : Cell). is_lt (position_cmp p c.at)) s i (λ k d h l. turned (get_or s k d) ∙ fails k d h l) (λ k d h l. turned (get_or s k d) ∙ ap is_gt (passes k d h l))
+      filter-drop (stands_after p) s i (λ k d h l. turned (get_or s k d) ∙ fails k d h l) (λ k d h l. turned (get_or s k d) ∙ ap is_gt (passes k d h l))
 
   -- what comes before the position's character is less, and what comes after it greater
   less_before : (a b : Cell) → IsBefore a.at b.at → order b ≡ Equal → order a ≡ Less

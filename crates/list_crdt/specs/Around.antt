@@ -12,7 +12,7 @@ use Rattle.list_crdt.specs.declared.position.Step.{Step}
 use Rattle.list_crdt.specs.declared.text.Cell.{Cell}
 use Rattle.list_crdt.specs.Position.{IsBefore, position_cmp}
 use Rattle.list_crdt.specs.Order.{position_total, same_position}
-use Rattle.list_crdt.specs.Text.{IsRising, after, before, cells_at, with_at}
+use Rattle.list_crdt.specs.Text.{IsRising, after, before, cells_at, with_at, stands_after, stands_before}
 
 -- filters
 
@@ -66,35 +66,35 @@ module _ (p q : List Step) (h : IsBefore p q) (m k : Option ℕ) (s : List Cell)
   before_q =
       parts _ (before p s) (cells_at p m) (after p s)
       ∙ ap₂ (λ (x y : List Cell). x ++ (y ++ mid))
-      (filter_again (λ (c : Cell). is_lt (position_cmp c.at p)) (λ (c : Cell). is_lt (position_cmp c.at q)) (λ c t. ap is_lt (before_trans c.at p q (less_from_test _ t) h)) s)
-      (filter_cells (λ (c : Cell). is_lt (position_cmp c.at q)) true p m (λ _. ap is_lt h))
+      (filter_again (stands_before p) (stands_before q) (λ c t. ap is_lt (before_trans c.at p q (less_from_test _ t) h)) s)
+      (filter_cells (stands_before q) true p m (λ _. ap is_lt h))
 
   after_q : after q (with_at p m s) ≡ after q s
   after_q =
       parts _ (before p s) (cells_at p m) (after p s)
       ∙ ap₂ (λ (x y : List Cell). x ++ (y ++ after q (after p s)))
-      (filter_other (λ (c : Cell). is_lt (position_cmp c.at p)) (λ (c : Cell). is_lt (position_cmp q c.at)) (λ c t. not_both p q c.at h t) s)
-      (filter_cells (λ (c : Cell). is_lt (position_cmp q c.at)) false p m (λ _. not_after p q h))
-      ∙ filter_swap (λ (c : Cell). is_lt (position_cmp q c.at)) (λ (c : Cell). is_lt (position_cmp p c.at)) s
-      ∙ filter_again (λ (c : Cell). is_lt (position_cmp q c.at)) (λ (c : Cell). is_lt (position_cmp p c.at)) (λ c t. ap is_lt (before_trans p q c.at h (less_from_test _ t))) s
+      (filter_other (stands_before p) (stands_after q) (λ c t. not_both p q c.at h t) s)
+      (filter_cells (stands_after q) false p m (λ _. not_after p q h))
+      ∙ filter_swap (stands_after q) (stands_after p) s
+      ∙ filter_again (stands_after q) (stands_after p) (λ c t. ap is_lt (before_trans p q c.at h (less_from_test _ t))) s
 
   before_p : before p (with_at q k s) ≡ before p s
   before_p =
       parts _ (before q s) (cells_at q k) (after q s)
       ∙ ap₂ (λ (x y : List Cell). before p (before q s) ++ (x ++ y))
-      (filter_cells (λ (c : Cell). is_lt (position_cmp c.at p)) false q k (λ _. not_after p q h))
-      (filter_other (λ (c : Cell). is_lt (position_cmp q c.at)) (λ (c : Cell). is_lt (position_cmp c.at p)) (λ c t. not_both_after p q c.at h t) s)
+      (filter_cells (stands_before p) false q k (λ _. not_after p q h))
+      (filter_other (stands_after q) (stands_before p) (λ c t. not_both_after p q c.at h t) s)
       ∙ append-nil (before p (before q s))
-      ∙ filter_swap (λ (c : Cell). is_lt (position_cmp c.at p)) (λ (c : Cell). is_lt (position_cmp c.at q)) s
-      ∙ filter_again (λ (c : Cell). is_lt (position_cmp c.at p)) (λ (c : Cell). is_lt (position_cmp c.at q)) (λ c t. ap is_lt (before_trans c.at p q (less_from_test _ t) h)) s
+      ∙ filter_swap (stands_before p) (stands_before q) s
+      ∙ filter_again (stands_before p) (stands_before q) (λ c t. ap is_lt (before_trans c.at p q (less_from_test _ t) h)) s
 
   after_p : after p (with_at q k s) ≡ mid ++ (cells_at q k ++ after q s)
   after_p =
       parts _ (before q s) (cells_at q k) (after q s)
       ∙ ap₂ (λ (x y : List Cell). after p (before q s) ++ (x ++ y))
-      (filter_cells (λ (c : Cell). is_lt (position_cmp p c.at)) true q k (λ _. ap is_lt h))
-      (filter_again (λ (c : Cell). is_lt (position_cmp q c.at)) (λ (c : Cell). is_lt (position_cmp p c.at)) (λ c t. ap is_lt (before_trans p q c.at h (less_from_test _ t))) s)
-      ∙ ap (λ x. x ++ (cells_at q k ++ after q s)) (filter_swap (λ (c : Cell). is_lt (position_cmp p c.at)) (λ (c : Cell). is_lt (position_cmp c.at q)) s)
+      (filter_cells (stands_after p) true q k (λ _. ap is_lt h))
+      (filter_again (stands_after q) (stands_after p) (λ c t. ap is_lt (before_trans p q c.at h (less_from_test _ t))) s)
+      ∙ ap (λ x. x ++ (cells_at q k ++ after q s)) (filter_swap (stands_after p) (stands_before q) s)
 
   pub edits_apart : with_at q k (with_at p m s) ≡ with_at p m (with_at q k s)
   edits_apart =
@@ -133,8 +133,8 @@ module _ (P : Cell → Type 0) (p : List Step) (o : Option ℕ) (own : (ch : ℕ
 
   pub all-with_at : All P (with_at p o s)
   all-with_at =
-      All-append P (before p s) (cells_at p o ++ after p s) (All-filter (λ (c : Cell). is_lt (position_cmp c.at p)) P s all)
-      (All-append P (cells_at p o) (after p s) own_cells (All-filter (λ (c : Cell). is_lt (position_cmp p c.at)) P s all))
+      All-append P (before p s) (cells_at p o ++ after p s) (All-filter (stands_before p) P s all)
+      (All-append P (cells_at p o) (after p s) own_cells (All-filter (stands_after p) P s all))
 
 -- and the order
 
@@ -148,14 +148,14 @@ module _ {X : Type 0} (R : X → X → Type 0) where
 
 module _ (p : List Step) (s : List Cell) where
   before_all : All (λ c. IsBefore c.at p) (before p s)
-  before_all = All-weaker _ (λ (c : Cell). IsBefore c.at p) (λ c t. less_from_test _ t) (before p s) (filter_passes (λ (c : Cell). is_lt (position_cmp c.at p)) s)
+  before_all = All-weaker _ (λ (c : Cell). IsBefore c.at p) (λ c t. less_from_test _ t) (before p s) (filter_passes (stands_before p) s)
 
   after_all : All (λ c. IsBefore p c.at) (after p s)
-  after_all = All-weaker _ (λ (c : Cell). IsBefore p c.at) (λ c t. less_from_test _ t) (after p s) (filter_passes (λ (c : Cell). is_lt (position_cmp p c.at)) s)
+  after_all = All-weaker _ (λ (c : Cell). IsBefore p c.at) (λ c t. less_from_test _ t) (after p s) (filter_passes (stands_after p) s)
 
   rising-rest : (o : Option ℕ) → IsRising s → IsRising (cells_at p o ++ after p s)
-  rising-rest None h = AllPairs-filter (λ (a b : Cell). IsBefore a.at b.at) (λ (c : Cell). is_lt (position_cmp p c.at)) s h
-  rising-rest (Some ch) h = AllPairs-cons (λ (a b : Cell). IsBefore a.at b.at) (record { at = p; ch = ch }) (after p s) after_all (AllPairs-filter (λ (a b : Cell). IsBefore a.at b.at) (λ (c : Cell). is_lt (position_cmp p c.at)) s h)
+  rising-rest None h = AllPairs-filter (λ (a b : Cell). IsBefore a.at b.at) (stands_after p) s h
+  rising-rest (Some ch) h = AllPairs-cons (λ (a b : Cell). IsBefore a.at b.at) (record { at = p; ch = ch }) (after p s) after_all (AllPairs-filter (λ (a b : Cell). IsBefore a.at b.at) (stands_after p) s h)
 
   far_after : (c : Cell) → IsBefore c.at p → All (λ d. IsBefore c.at d.at) (after p s)
   far_after c h = All-weaker _ (λ (d : Cell). IsBefore c.at d.at) (λ d k. before_trans c.at p d.at h k) (after p s) after_all
@@ -167,6 +167,6 @@ module _ (p : List Step) (s : List Cell) where
   pub rising-with_at : (o : Option ℕ) → IsRising s → IsRising (with_at p o s)
   rising-with_at o h =
       pairs-append (λ (a b : Cell). IsBefore a.at b.at) (before p s) (cells_at p o ++ after p s)
-      (AllPairs-filter (λ (a b : Cell). IsBefore a.at b.at) (λ (c : Cell). is_lt (position_cmp c.at p)) s h)
+      (AllPairs-filter (λ (a b : Cell). IsBefore a.at b.at) (stands_before p) s h)
       (rising-rest o h)
       (All-weaker _ (λ (c : Cell). All (λ d. IsBefore c.at d.at) (cells_at p o ++ after p s)) (λ c k. rest_after o c k) (before p s) before_all)

@@ -1,5 +1,6 @@
 -- Texts: characters by rising position. A character is a Unicode scalar value.
-use Rattle.std.specs.Prelude.{◌≡◌, ℕ, zero, suc, List, [], ◌∷◌, ◌++◌, map, Option, None, Some, IsTrue, encode_utf8_all, slice_get, true, false}
+use Rattle.std.specs.Prelude.{◌≡◌, ℕ, zero, suc, Bool, true, false, List, [], ◌∷◌, ◌++◌, map, Option, None, Some, IsTrue}
+use Rattle.std.specs.Prelude.{encode_utf8_all, slice_get}
 use Rattle.std.specs.Char.{IsScalar}
 use Rattle.std.specs.Option.{option_map}
 use Rattle.std.specs.List.{All, AllPairs, filter}
@@ -16,12 +17,19 @@ use Rattle.list_crdt.specs.declared.text.TextOp.{TextOp}
 use Rattle.list_crdt.specs.declared.text.TextOp.TheVariants.{Insert, Delete}
 use Rattle.list_crdt.specs.Position.{IsBefore, IsPosition, IsPositionOf, maker, position_cmp}
 
+-- whether a character stands before a position, or after it
+abbrev pub stands_before : List Step → Cell → Bool
+stands_before p c = is_lt (position_cmp c.at p)
+
+abbrev pub stands_after : List Step → Cell → Bool
+stands_after p c = is_lt (position_cmp p c.at)
+
 -- what stands before a position, and what stands after it
 abbrev pub before : List Step → List Cell → List Cell
-before p s = filter (λ c. is_lt (position_cmp c.at p)) s
+before p s = filter (stands_before p) s
 
 abbrev pub after : List Step → List Cell → List Cell
-after p s = filter (λ c. is_lt (position_cmp p c.at)) s
+after p s = filter (stands_after p) s
 
 -- the character at the position, if there is one
 abbrev pub cells_at : List Step → Option ℕ → List Cell

@@ -1,7 +1,8 @@
 ghost use Rattle.std.specs.Prelude.{◌≡◌, ℕ, ◌+◌, ◌<◌, ◌≤◌, ◌↔◌, [], ◌∷◌, ◌++◌, length, IfOk, IfSome};
 ghost use Rattle.std.specs.Option.{option_copied};
 ghost use Rattle.list_crdt.specs.Position.{IsPosition, IsPositionOf, maker, max_steps};
-ghost use Rattle.list_crdt.specs.Between.{AreInOrder, IsBetween, MayName, next_position, one_step, padded, position_between, steps_of};
+ghost use Rattle.list_crdt.specs.Between.{AreInOrder, IsBetween, MayName, next_position, one_step};
+ghost use Rattle.list_crdt.specs.Between.{padded, position_between, steps_of};
 
 use crate::position::{Position, Step};
 use crdt_laws::{List, NoMemory};
@@ -31,7 +32,8 @@ impl From<NoMemory> for ListError {
 fn parting(p: &[Step], q: &[Step]) -> (usize, u16)
     requires low { length p.now ≤ max_steps }
     requires high { length q.now ≤ max_steps }
-    ensures next { (member seq : ℕ) → next_position member seq p.now q.now ≡ padded result.0 p.now ++ one_step member seq result.1 }
+    ensures next { (member seq : ℕ)
+        → next_position member seq p.now q.now ≡ padded result.0 p.now ++ one_step member seq result.1 }
     ensures depth { result.0 ≤ max_steps }
 {
     let (mut low, mut high) = (p, q);
@@ -89,8 +91,14 @@ fn ending_in(alloc: Global, p: &[Step], depth: usize, last: Step) -> Result<Posi
     })
 }
 
-/// The next position between `p` and `q`, where these are given, for the operation of this member with this sequence number.
-/// Operations of different members so get different positions between the same neighbours.
+/// The next position between `p` and `q`, where these are given, for the operation of this member with this sequence number: where
+/// a character stands that the operation puts between theirs. `p` comes before `q`. Refuses with `PositionFull` exactly where
+/// that position has more than 32 steps, and else for want of memory alone. Different operations get different positions,
+/// whatever these are made between.
+///
+/// Positions are lists of steps with digits, after the identifiers of Logoot (Weiss, Urso and Molli, 2009). There a new digit is
+/// drawn at random from those between its neighbours'. Here it is the one next to the lower neighbour's, or below the upper one's
+/// where there is no lower neighbour. So a position follows from its neighbours and its operation's name.
 pub fn between(
     alloc: Global,
     p: Option<&Position>,
@@ -100,13 +108,14 @@ pub fn between(
 ) -> Result<Position, ListError>
     requires { AreInOrder (option_copied p) (option_copied q) }
     ensures next { IfOk result (λ r. r ≡ position_between member seq (option_copied p.entry) (option_copied q.entry)) }
-    ensures full { (k : ℕ) → (result ≡ Err (ListError.PositionFull k)) ↔
-        (let steps = length (position_between member seq (option_copied p.entry) (option_copied q.entry)) in (max_steps < steps) × (k ≡ steps)) }
+    ensures full { (k : ℕ) → (result ≡ Err (ListError.PositionFull k))
+        ↔ (let steps = length (position_between member seq (option_copied p.entry) (option_copied q.entry))
+        in (max_steps < steps) × (k ≡ steps)) }
     ensures between { IfOk result (IsBetween (option_copied p.entry) (option_copied q.entry)) }
     ensures maker { IfOk result (λ r. maker r ≡ record { member = member; seq = seq }) }
     ensures position { IfOk result IsPosition }
-    ensures position_of { (n : ℕ) → IfSome (option_copied p.entry) (IsPositionOf n) → IfSome (option_copied q.entry) (IsPositionOf n)
-        → MayName n member seq → IfOk result (IsPositionOf n) }
+    ensures position_of { (n : ℕ) → IfSome (option_copied p.entry) (IsPositionOf n)
+        → IfSome (option_copied q.entry) (IsPositionOf n) → MayName n member seq → IfOk result (IsPositionOf n) }
 {
     let (low, high) = (steps_of(p), steps_of(q));
     let (depth, digit) = parting(low, high);

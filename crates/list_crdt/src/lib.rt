@@ -1,4 +1,5 @@
-//! Texts in which each character has a position of its own, and the positions between others.
+//! Texts whose characters have positions of their own, and positions between others. Members may put characters into one place
+//! at once, and delete what others have put there: texts with the same operations are the same.
 #![tactic(auto)]
 
 mod cells;

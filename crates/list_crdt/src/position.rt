@@ -8,17 +8,18 @@ use std::cmp::Ordering;
 use std::marker::Model;
 use vector_clock::Id;
 
-/// One step of a position: a digit, and the operation that the step was made for.
+/// One step of a position: a digit, and the name of the operation that it was made for. Steps are compared by digit, then by
+/// member, then by sequence number.
 #[derive(Clone, Copy, Debug, PartialEq, Eq, PartialOrd, Ord)]
 pub struct Step {
-    /// 0 in a pad alone.
+    /// 1 to 65,535, and 0 in a pad.
     pub digit: u16,
     pub member: u8,
     pub seq: u32,
 }
 
 impl Step {
-    /// The step that no operation is named by. It is below all other steps.
+    /// The step that names no operation. It goes down a level, below all other steps.
     pub const PAD: Step = Step {
         digit: 0,
         member: 0,
@@ -50,7 +51,8 @@ fn may_lead(steps: &[Step], n: u8) -> bool
     steps.iter().all(|s| s.may_lead(n))
 }
 
-/// The place of a character: steps, which contracts see as their list.
+/// The place of a character: 1 to 32 steps, the last of which names the operation that it was made for. Contracts see the list
+/// of steps.
 #[derive(Debug, Drop)]
 pub struct Position {
     pub steps: List<Step>,

@@ -385,7 +385,7 @@ fn copies_texts_and_operations(rt: HostRuntime) -> Result<(), Fail> {
     Ok(())
 }
 
-// How many characters the tests of time type. `bench` says how to time more.
+// How many characters the tests below type.
 const MANY: u32 = 5_000;
 
 #[test]

@@ -33,10 +33,11 @@ impl Cell {
 /// The characters of a text by strictly rising position.
 pub type TextState = List<Cell>;
 
-/// What a member asks of a text.
+/// What a member asks of a text. The position of an insert is made for it: its last step has the insert's name. A delete names the
+/// position that was made for another operation, which its member knows.
 #[derive(Debug, Drop)]
 pub enum TextOp {
-    /// The character comes to stand at the position.
+    /// The character comes to stand at the position, in the place of what may stand there.
     Insert { at: Position, ch: char },
     /// No character stands at the position any more.
     Delete { at: Position },
@@ -50,7 +51,8 @@ fn may_name(stamp: &Stamp, at: &Position) -> bool
     is_within(stamp) && at.is_of(stamp.clock.n)
 }
 
-/// The tower of texts, of one level. A text is at first empty, and is shown as a string.
+/// The tower of texts, of one level. A text is at first empty, and is shown as a string. An edit finds its place by halving the
+/// text, and moves what stands behind it.
 #[derive(Clone, Copy, Debug, PartialEq, Eq)]
 pub struct Text;
 
