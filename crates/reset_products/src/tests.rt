@@ -6,6 +6,7 @@ ghost use Rattle.crdt_laws.specs.Sets.{AreApart, AreIssued, IsRising};
 ghost use Rattle.crdt_laws.specs.Tower.{IsStampOf};
 ghost use Rattle.semidirect_product.specs.Stack.{stack_meaning};
 ghost use Rattle.number_crdts.specs.Number.{add_meaning, mul_action};
+ghost use Rattle.reset_products.specs.Observed.{IsGoodLog};
 
 use super::*;
 use crdt_laws::{Entry, List, NoMemory, Ops, Tower, Txt};
@@ -150,6 +151,7 @@ fn forgets_what_each_reset_forgets(rt: HostRuntime) -> Result<(), Fail> {
     assert_eq!(rt; state.base, 0);
     assert_eq!(rt; state.log.len(), 1);
     assert_eq!(rt; shown(alloc, &tower, &state)?.as_str(), "2");
+    assert_eq!(rt; number_of(alloc, &tower, &state)?, 2);
     let tower = winning(number());
     let five = StackOp::Low(MaybeOp::Real(StackOp::Low(5)));
     let two = StackOp::Low(MaybeOp::Real(StackOp::Low(2)));
@@ -164,6 +166,16 @@ fn forgets_what_each_reset_forgets(rt: HostRuntime) -> Result<(), Fail> {
 // Numbers with observed resets.
 fn observed_number() -> Observed<Number> {
     Observed::of(number())
+}
+
+fn number_of(
+    alloc: Global,
+    tower: &Observed<Number>,
+    state: &ObservedState<Number>,
+) -> Result<u64, NoMemory>
+    requires { IsGoodLog (stack_meaning add_meaning mul_action) 2 state.now }
+{
+    tower.value(alloc, state)
 }
 
 fn adds(n: u64) -> ObservedOp<StackOp<u64, u64>> {
