@@ -54,6 +54,15 @@ fn tallies_by_key(rt: HostRuntime) -> Result<(), Fail> {
     Ok(())
 }
 
+// What is shown of a copy of the settled state.
+fn shown_settled<T: Tower>(alloc: Global, tower: &T, state: T::State) -> Result<String, NoMemory>
+    requires { (T.meaning tower.now).good 3 state }
+{
+    let settled = tower.settle(alloc, state, &Clock::zero(3))?;
+    let copy = tower.copy_state(alloc, &settled)?;
+    Ok(tower.show(alloc, &copy)?.to_string(alloc)?)
+}
+
 // A multiplication acts on what is added to its own key.
 #[test]
 fn keeps_keys_apart(rt: HostRuntime) -> Result<(), Fail> {
@@ -69,9 +78,7 @@ fn keeps_keys_apart(rt: HostRuntime) -> Result<(), Fail> {
     assert!(rt; !tower.same_op(&ann, &bob) && !tower.same_op(&ann, &six));
     let state = after(alloc, &tower, tower.init(alloc)?, 0, &bob)?;
     let state = after(alloc, &tower, state, 1, &triple)?;
-    let settled = tower.settle(alloc, state, &Clock::zero(3))?;
-    let copy = tower.copy_state(alloc, &settled)?;
-    let shown = tower.show(alloc, &copy)?.to_string(alloc)?;
+    let shown = shown_settled(alloc, &tower, state)?;
     assert_eq!(rt; shown.as_str(), r#"{"ann":0,"bob":2}"#);
     Ok(())
 }
