@@ -44,8 +44,7 @@ def once(folder):
 
 
 def main():
-    if not PROGRAM.exists():
-        sys.exit("build the program first: ./replica play < examples/two-devices.script")
+    subprocess.run([TOP / "replica", "play"], stdin=subprocess.DEVNULL, check=True)
     whole, least = seconds(32, 32), seconds(1, 1)
     rate = cases(32, 32) / max(whole - least, 1e-6)
     print(f"32 states, 32 operations: {whole:.4f} s, {cases(32, 32):,} cases, {rate:,.0f} cases a second")
