@@ -1,5 +1,5 @@
 -- The operations of two sets as one list.
-use Rattle.std.proofs.Common.{◌≡◌, true, false, Bool, not, List, [], ◌∷◌, ◌++◌, cond, refl, sym, ◌∙◌, arith, ◌⊎◌, ◌↔◌, inl, inr, subst, All, Contains}
+use Rattle.std.proofs.Common.{◌≡◌, true, false, not, List, [], ◌∷◌, ◌++◌, cond, refl, arith, ◌⊎◌, ◌↔◌, inl, inr, subst, All, Contains}
 use Rattle.std.specs.List.{AllByRecursion, filter}
 use Rattle.std.proofs.lemmas.Bool.{false_from_ne_true}
 use Rattle.std.proofs.lemmas.Bool.Decides.{nat_tests}
@@ -9,19 +9,19 @@ use Rattle.vector_clock.specs.Stamp.{id_of, is_below, same_id}
 use Rattle.vector_clock.proofs.Keys.{key_irreflexive}
 use Rattle.crdt_laws.specs.declared.small.Entry.{Entry}
 use Rattle.crdt_laws.specs.Sets.{AreApart, IsHonest, IsRising, canonical, has_name, together}
-use Rattle.crdt_laws.proofs.Filters.{all-append, all-filter, all_weaker}
-use Rattle.crdt_laws.proofs.Members.{Contains-canonical, Contains-front, Contains-more, at_member, each, rising_same}
+use Rattle.crdt_laws.proofs.Filters.{all-append, all_weaker, apart-filter}
+use Rattle.crdt_laws.proofs.Members.{Contains-canonical, Contains-front, Contains-more, at_member, each, filter_has, filter_inside, rising_same}
 use Rattle.crdt_laws.proofs.Place.{rising-canonical}
 
 -- a part of an honest set is honest
-pub honest_part : {Op : Type 0} (xs ys : List (Entry Op)) → ((e : Entry Op) → Contains ys e → Contains xs e) → IsHonest xs → IsHonest ys
-honest_part xs ys sub h = record {
-  same = λ a b i j. h.same a b (sub a i) (sub b j);
-  known = λ a b i j. h.known a b (sub a i) (sub b j);
+pub honest_part : {Op : Type 0} (xs ys : List (Entry Op)) → IsHonest xs → ((e : Entry Op) → Contains ys e → Contains xs e) → IsHonest ys
+honest_part xs ys h part = record {
+  same = λ a b i j. h.same a b (part a i) (part b j);
+  known = λ a b i j. h.known a b (part a i) (part b j);
 }
 
 honest_swap : {Op : Type 0} (xs ys : List (Entry Op)) → IsHonest (xs ++ ys) → IsHonest (ys ++ xs)
-honest_swap xs ys = honest_part (xs ++ ys) (ys ++ xs) (λ e c. elim (Contains-append_cases ys xs e c) [
+honest_swap xs ys h = honest_part (xs ++ ys) (ys ++ xs) h (λ e c. elim (Contains-append_cases ys xs e c) [
   | inl i ↦ Contains-append_right xs ys e i
   | inr i ↦ Contains-append_left xs ys e i
 ])
@@ -68,28 +68,8 @@ apart-append [] ys h k o = k
 apart-append (a ∷ xs) ys h k o =
     (all-append (λ b. same_id a.stamp b.stamp ≡ false) xs ys h.0 (o a (Contains-front a xs)), apart-append xs ys h.1 k (λ e c. o e (Contains-more a xs e c)))
 
-pub apart-filter : {Op : Type 0} (p : Entry Op → Bool) (xs : List (Entry Op)) → AreApart xs → AreApart (filter p xs)
-apart-filter p [] h = tt
-apart-filter p (a ∷ xs) h =
-    let rest : AreApart (filter p xs) = apart-filter p xs h.1 in
-    elim (p a) as (λ b. AreApart (cond b (a ∷ filter p xs) (filter p xs))) [ true ↦ (all-filter (λ b. same_id a.stamp b.stamp ≡ false) p xs h.0, rest) | false ↦ rest ]
-
 both_apart : {Op : Type 0} (xs ys : List (Entry Op)) → AreApart xs → AreApart ys → AreApart (xs ++ filter (λ e. not (has_name xs (id_of e.stamp))) ys)
 both_apart xs ys h k = apart-append xs _ h (apart-filter _ ys k) (others_apart xs ys)
-
-Contains-filtered : {Op : Type 0} (p : Entry Op → Bool) (l : List (Entry Op)) (e : Entry Op) → Contains (filter p l) e → Contains l e
-Contains-filtered {Op} p l e c = at_member (Contains l) (filter p l) e (all-filter (Contains l) p l (each l)) c
-
-Contains-filter : {Op : Type 0} (p : Entry Op → Bool) (l : List (Entry Op)) (e : Entry Op) → Contains l e → p e ≡ true → Contains (filter p l) e
-Contains-filter {Op} p l e c h = at_member (λ z. p z ≡ true → Contains (filter p l) z) l e (go l) c h
-  where
-    go : (m : List (Entry Op)) → AllByRecursion (λ z. p z ≡ true → Contains (filter p m) z) m
-    go [] = tt
-    go (a ∷ m) =
-        (elim (p a) as (λ b. p a ≡ b → AllByRecursion (λ z. p z ≡ true → Contains (cond b (a ∷ filter p m) (filter p m)) z) (a ∷ m)) [
-          | true ↦ λ q. (λ _. Contains-front a (filter p m), all_weaker _ (λ z. p z ≡ true → Contains (a ∷ filter p m) z) (λ z k i. Contains-more a (filter p m) z (k i)) m (go m))
-          | false ↦ λ q. (λ r. (let f : false ≡ true = sym q ∙ r in cc), go m)
-        ]) refl
 
 -- in an honest set, keys that rise are of different names
 pub rising_apart : {Op : Type 0} (xs : List (Entry Op)) → IsHonest xs → IsRising xs → AreApart xs
@@ -100,7 +80,7 @@ rising_apart {Op} (a ∷ xs) h r = (
       let e : a ≡ b = h.same a b (Contains-front a xs) (Contains-more a xs b c) q in
       let f : is_below a.stamp b.stamp ≡ true = at_member (λ (z : Entry Op). is_below a.stamp z.stamp ≡ true) xs b r.0 c in
       key_irreflexive b.stamp (subst (λ (z : Entry Op). is_below z.stamp b.stamp ≡ true) e f))) xs (each xs),
-  rising_apart xs (honest_part (a ∷ xs) xs (λ e c. Contains-more a xs e c) h) r.1,
+  rising_apart xs (honest_part (a ∷ xs) xs h (λ e c. Contains-more a xs e c)) r.1,
 )
 
 -- the list of two sets
@@ -110,7 +90,7 @@ unfolding together
 together_from xs ys e c =
     elim (Contains-append_cases xs (filter (λ e. not (has_name xs (id_of e.stamp))) ys) e ((Contains-canonical _ e).1 c)) [
       | inl i ↦ inl i
-      | inr i ↦ inr (Contains-filtered _ ys e i)
+      | inr i ↦ inr (filter_inside _ ys e i)
     ]
 
 pub together_first : {Op : Type 0} (xs ys : List (Entry Op)) (e : Entry Op) → Contains xs e → Contains (together xs ys) e
@@ -123,7 +103,7 @@ together_second xs ys e h c = (elim (has_name xs (id_of e.stamp)) as (λ t. has_
   | true ↦ λ q. (let w = has_name-who xs e.stamp q in
       let same : w.0 ≡ e = h.same w.0 e (Contains-append_left xs ys w.0 w.1.0) (Contains-append_right xs ys e c) w.1.1 in
       together_first xs ys e (subst (λ z. Contains xs z) same w.1.0))
-  | false ↦ λ q. (Contains-canonical _ e).0 (Contains-append_right xs _ e (Contains-filter _ ys e c (let f : not (has_name xs (id_of e.stamp)) ≡ true = cc in f)))
+  | false ↦ λ q. (Contains-canonical _ e).0 (Contains-append_right xs _ e (filter_has _ ys e c (let f : not (has_name xs (id_of e.stamp)) ≡ true = cc in f)))
 ]) refl
 
 pub together_elements : {Op : Type 0} (xs ys : List (Entry Op)) → IsHonest (xs ++ ys) → (e : Entry Op) → Contains (together xs ys) e ↔ (Contains xs e ⊎ Contains ys e)
@@ -157,7 +137,7 @@ together_within xs ys a b sub =
 
 -- a list of parts of an honest set is an honest set's
 honest_parts : {Op : Type 0} (all xs ys : List (Entry Op)) → IsHonest all → ((e : Entry Op) → Contains xs e → Contains all e) → ((e : Entry Op) → Contains ys e → Contains all e) → IsHonest (xs ++ ys)
-honest_parts all xs ys h left right = honest_part all (xs ++ ys) (λ e c. elim (Contains-append_cases xs ys e c) [ inl i ↦ left e i | inr i ↦ right e i ]) h
+honest_parts all xs ys h left right = honest_part all (xs ++ ys) h (λ e c. elim (Contains-append_cases xs ys e c) [ inl i ↦ left e i | inr i ↦ right e i ])
 
 grouped : {A B C : Type 0} → (A ⊎ B) ⊎ C → A ⊎ (B ⊎ C)
 grouped (inl (inl a)) = inl a
@@ -185,8 +165,8 @@ together_associates {Op} xs ys zs h a b c =
     let q : IsHonest (xs ++ together ys zs) = honest_parts all xs (together ys zs) h x yz in
     let first : IsHonest (xs ++ ys) = honest_parts all xs ys h x y in
     let last : IsHonest (ys ++ zs) = honest_parts all ys zs h y z in
-    let d : AreApart (together xs ys) = rising_apart (together xs ys) (honest_part all (together xs ys) xy h) (together_rises xs ys a b) in
-    let e : AreApart (together ys zs) = rising_apart (together ys zs) (honest_part all (together ys zs) yz h) (together_rises ys zs b c) in
+    let d : AreApart (together xs ys) = rising_apart (together xs ys) (honest_part all (together xs ys) h xy) (together_rises xs ys a b) in
+    let e : AreApart (together ys zs) = rising_apart (together ys zs) (honest_part all (together ys zs) h yz) (together_rises ys zs b c) in
     rising_same (together (together xs ys) zs) (together xs (together ys zs)) (together_rises (together xs ys) zs d c) (together_rises xs (together ys zs) a e) (λ f. (
       λ i. (together_elements xs (together ys zs) q f).1 (either (λ j. j) (together_elements ys zs last f).1 (grouped (either (together_from xs ys f) (λ j. j) (together_from (together xs ys) zs f i)))),
       λ i. (together_elements (together xs ys) zs p f).1 (either (together_elements xs ys first f).1 (λ j. j) (regrouped (either (λ j. j) (together_from ys zs f) (together_from xs (together ys zs) f i)))),

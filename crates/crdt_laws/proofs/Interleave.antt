@@ -93,8 +93,8 @@ within {Op} (x ∷ xs) (y ∷ ys) m =
 -- on an honest union the interleaved list is the canonical list of both
 pub interleaved_together : {Op : Type 0} (xs ys : List (Entry Op)) → IsRising xs → IsRising ys → IsHonest (xs ++ ys) → interleaved xs ys ≡ together xs ys
 interleaved_together xs ys r s h =
-    let left : AreApart xs = rising_apart xs (honest_part (xs ++ ys) xs (Contains-append_left xs ys) h) r in
-    let right : AreApart ys = rising_apart ys (honest_part (xs ++ ys) ys (Contains-append_right xs ys) h) s in
+    let left : AreApart xs = rising_apart xs (honest_part (xs ++ ys) xs h (Contains-append_left xs ys)) r in
+    let right : AreApart ys = rising_apart ys (honest_part (xs ++ ys) ys h (Contains-append_right xs ys)) s in
     let all = within xs ys (λ a b i j. h.same a b (Contains-append_left xs ys a i) (Contains-append_right xs ys b j)) in
     rising_same (interleaved xs ys) (together xs ys) (rising-interleaved xs ys r s) (together_rises xs ys left right) (λ e. (
       λ c. (together_elements xs ys h e).1 (interleaved_from_both xs ys e c),

@@ -1,7 +1,8 @@
 -- Sets as lists: what they contain, and what a new operation meets in them.
-use Rattle.std.proofs.Common.{◌≡◌, ℕ, zero, suc, ◌<◌, true, false, List, [], ◌∷◌, cond, refl, ap₂, sym, ◌∙◌, arith, ◌⊎◌, ◌↔◌, inl, inr, subst, get_or, length, Contains}
-use Rattle.std.specs.List.{AllByRecursion}
-use Rattle.std.proofs.lemmas.List.Elements.{All-from_recursion, recursion_from_All, All-contains_itself, All-contains}
+use Rattle.std.proofs.Common.{◌≡◌, ℕ, zero, suc, ◌<◌, Bool, true, false, List, [], ◌∷◌, cond, refl, ap, ap₂, sym, ◌∙◌, arith, ◌⊎◌, ◌↔◌, inl, inr, subst, get_or, length, Contains}
+use Rattle.std.specs.List.{AllByRecursion, filter}
+use Rattle.std.proofs.lemmas.Bool.{cond_both, both_ways}
+use Rattle.std.proofs.lemmas.List.Elements.{All-filter, All-from_recursion, recursion_from_All, All-contains_itself, All-contains, filter_passes}
 use Rattle.vector_clock.specs.Stamp.{is_below}
 use Rattle.vector_clock.proofs.Keys.{key_asym, key_irreflexive}
 use Rattle.crdt_laws.specs.declared.small.Entry.{Entry}
@@ -27,6 +28,30 @@ Contains-cases a xs x c = go c.0 c.1 c.2
     go : (k : ℕ) → k < length (a ∷ xs) → get_or (a ∷ xs) k x ≡ x → (a ≡ x) ⊎ Contains xs x
     go zero l e = inl e
     go (suc k) l e = inr (k, (let h : suc k < suc (length xs) = l in omega arith), e)
+
+-- what a filter leaves
+
+pub filter_inside : {X : Type 0} (p : X → Bool) (xs : List X) (x : X) → Contains (filter p xs) x → Contains xs x
+filter_inside p xs x c = All-contains (Contains xs) (filter p xs) x (All-filter p (Contains xs) xs (All-contains_itself xs)) c
+
+pub filter_passed : {X : Type 0} (p : X → Bool) (xs : List X) (x : X) → Contains (filter p xs) x → p x ≡ true
+filter_passed p xs x c = All-contains (λ y. p y ≡ true) (filter p xs) x (filter_passes p xs) c
+
+pub filter_has : {X : Type 0} (p : X → Bool) (xs : List X) (x : X) → Contains xs x → p x ≡ true → Contains (filter p xs) x
+filter_has p [] x c h = let l : c.0 < 0 = c.1 in absurd (omega arith)
+filter_has p (y ∷ xs) x c h =
+    let cases = Contains-cases y xs x c in
+    cond_both (p y) (y ∷ filter p xs) (filter p xs) (λ l. Contains l x)
+    (λ _. elim cases [
+      | inl q ↦ subst (λ z. Contains (y ∷ filter p xs) z) q (Contains-front y (filter p xs))
+      | inr j ↦ Contains-more y (filter p xs) x (filter_has p xs x j h)
+    ])
+    (λ f. elim cases [
+      | inl q ↦ absurd (both_ways (p y) f (ap p q ∙ h))
+      | inr j ↦ filter_has p xs x j h
+    ])
+
+-- lists by key
 
 above : {Op : Type 0} (a : Entry Op) (c : List (Entry Op)) → IsRising (a ∷ c) → (e : Entry Op) → Contains c e → is_below a.stamp e.stamp ≡ true
 above {Op} a c r e k = at_member (λ (b : Entry Op). is_below a.stamp b.stamp ≡ true) c e r.0 k

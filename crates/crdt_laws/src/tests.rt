@@ -4,7 +4,7 @@ ghost use Rattle.vector_clock.specs.Clock.{IsClock, count};
 ghost use Rattle.vector_clock.specs.Stamp.{IsStamp};
 ghost use Rattle.crdt_laws.specs.Sets.{IsRising};
 
-use crate::{Entry, List, NoMemory, Ops, together};
+use crate::{Entry, List, NoMemory, Ops, Txt, together};
 use std::alloc::Global;
 use std::test::Fail;
 use vector_clock::{Clock, Stamp};
@@ -82,5 +82,31 @@ fn keeps_what_is_put_in(rt: HostRuntime) -> Result<(), Fail> {
     list.push(7)?;
     assert_eq!(rt; list.get(0), Some(&7));
     assert_eq!(rt; list.len(), 1);
+    Ok(())
+}
+
+// The text of these bytes.
+fn text_of(alloc: Global, bytes: &[u8]) -> Result<Txt, NoMemory> {
+    Ok(Txt {
+        items: Vec::from_slice(alloc, bytes)?,
+    })
+}
+
+#[test]
+fn copies_and_compares_texts(rt: HostRuntime) -> Result<(), Fail> {
+    let text = text_of(rt.alloc(), "bl\u{fc}".as_bytes())?;
+    let copy = text.copy(rt.alloc())?;
+    assert!(rt; copy == text);
+    assert!(rt; copy != text_of(rt.alloc(), b"bl")?);
+    Ok(())
+}
+
+// The second byte of the letter is missing.
+#[test]
+fn shows_what_is_utf8(rt: HostRuntime) -> Result<(), Fail> {
+    let text = text_of(rt.alloc(), &[98, 108, 195, 188])?;
+    assert!(rt; text.is_utf8());
+    assert_eq!(rt; text.to_string(rt.alloc())?.as_str(), "bl\u{fc}");
+    assert!(rt; !text_of(rt.alloc(), &[98, 108, 195])?.is_utf8());
     Ok(())
 }

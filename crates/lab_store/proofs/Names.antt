@@ -1,8 +1,8 @@
 -- Files under their names.
-use Rattle.std.proofs.Common.{◌≡◌, ℕ, zero, suc, ◌+◌, ◌≤◌, ◌<◌, true, false, Bool, not, ◌&&◌, List, [], ◌∷◌, ◌++◌, cond, refl, ap, ap₂, sym, arith, length, set, subst}
+use Rattle.std.proofs.Common.{◌≡◌, ℕ, zero, suc, ◌+◌, ◌≤◌, ◌<◌, true, false, Bool, not, List, [], ◌∷◌, ◌++◌, cond, refl, ap, ap₂, sym, arith, length, set, subst}
 use Rattle.std.specs.List.{list_all}
 use Rattle.std.specs.Str.{bytes_eq}
-use Rattle.std.proofs.lemmas.Bool.{and_parts, false_from_ne_true}
+use Rattle.std.proofs.lemmas.Bool.{and_from, and_parts, false_from_ne_true}
 use Rattle.std.proofs.lemmas.Slice.Eq.{bytes_eq-Decides}
 use Rattle.lab_store.specs.declared.mem_store.File.{File}
 use Rattle.lab_store.specs.Files.{pairs, place_of}
@@ -17,9 +17,6 @@ other_bytes xs ys h = false_from_ne_true _ (λ q.
     let t : bytes_eq xs ys ≡ true = (bytes_eq-Decides xs ys).1 (sym (same_bytes ys xs q)) in
     cc)
 
-both_true : (a b : Bool) → a ≡ true → b ≡ true → (a && b) ≡ true
-both_true a b h k = grind arith
-
 -- what passes a test at all files passes it when one more is there that does
 all-with : (p : List ℕ × List ℕ → Bool) (n b : List ℕ) → p (n, b) ≡ true → (files : List (List ℕ × List ℕ)) → list_all p files ≡ true → list_all p (with_file files n b) ≡ true
 all-with p n b h [] k = grind arith
@@ -27,8 +24,8 @@ all-with p n b h (f ∷ files) k =
     let both : (p f ≡ true) × (list_all p files ≡ true) = and_parts (p f) (list_all p files) k in
     let ih : list_all p (with_file files n b) ≡ true = all-with p n b h files both.1 in
     elim (bytes_eq n f.0) as (λ t. list_all p (cond t ((n, b) ∷ files) (f ∷ with_file files n b)) ≡ true) [
-      | true ↦ both_true (p (n, b)) (list_all p files) h both.1
-      | false ↦ both_true (p f) (list_all p (with_file files n b)) both.0 ih
+      | true ↦ and_from (p (n, b)) (list_all p files) h both.1
+      | false ↦ and_from (p f) (list_all p (with_file files n b)) both.0 ih
     ]
 
 pub names_differ-with : (n b : List ℕ) (files : List (List ℕ × List ℕ)) → names_differ files ≡ true → names_differ (with_file files n b) ≡ true
@@ -37,10 +34,10 @@ names_differ-with n b (f ∷ files) h =
     let p : List ℕ → List ℕ × List ℕ → Bool = λ m g. not (bytes_eq m g.0) in
     let both : (list_all (p f.0) files ≡ true) × (names_differ files ≡ true) = and_parts (list_all (p f.0) files) (names_differ files) h in
     (elim (bytes_eq n f.0) as (λ t. bytes_eq n f.0 ≡ t → names_differ (cond t ((n, b) ∷ files) (f ∷ with_file files n b)) ≡ true) [
-      | true ↦ λ e. both_true (list_all (p n) files) (names_differ files) (subst (λ m. list_all (p m) files ≡ true) (sym (same_bytes n f.0 e)) both.0) both.1
+      | true ↦ λ e. and_from (list_all (p n) files) (names_differ files) (subst (λ m. list_all (p m) files ≡ true) (sym (same_bytes n f.0 e)) both.0) both.1
       | false ↦ λ e.
           (let o : p f.0 (n, b) ≡ true = ap not (other_bytes n f.0 e) in
-          both_true (list_all (p f.0) (with_file files n b)) (names_differ (with_file files n b)) (all-with (p f.0) n b o files both.0) (names_differ-with n b files both.1))
+          and_from (list_all (p f.0) (with_file files n b)) (names_differ (with_file files n b)) (all-with (p f.0) n b o files both.0) (names_differ-with n b files both.1))
     ]) refl
 
 abbrev pair : List ℕ → List ℕ → List ℕ × List ℕ

@@ -4,7 +4,7 @@ ghost use Rattle.std.specs.List.{HoldsAt};
 ghost use Rattle.std.specs.List.Sorted.{IsPartitionPoint, IsSearchInRange};
 ghost use Rattle.map_crdt.specs.Keyed.{AreRising, byte_order};
 
-use crate::key::{compare_keys, copy_key, is_key, member_name, same_key};
+use crate::key::{compare_keys, is_key};
 use crdt_laws::{List, NoMemory, Tower, Txt};
 use serde_json::{Map, Value};
 use std::alloc::Global;
@@ -114,7 +114,7 @@ impl<T: Tower> Tower for Keyed<T> {
             Err(at) => {
                 let first = self.part.init(alloc)?;
                 let state = self.part.apply(alloc, first, stamp, &op.op)?;
-                let key = copy_key(alloc, &op.key)?;
+                let key = op.key.copy(alloc)?;
                 items.insert(at, KeyState { key, state })?;
             }
         }
@@ -129,12 +129,12 @@ impl<T: Tower> Tower for Keyed<T> {
         y: &KeyOp<T::Op>,
         x: &KeyOp<T::Op>,
     ) -> Result<KeyOp<T::Op>, NoMemory> {
-        let op = if same_key(&y.key, &x.key) {
+        let op = if y.key == x.key {
             self.part.act(alloc, &y.op, &x.op)?
         } else {
             self.part.copy_op(alloc, &x.op)?
         };
-        let key = copy_key(alloc, &x.key)?;
+        let key = x.key.copy(alloc)?;
         Ok(KeyOp { key, op })
     }
 
@@ -156,13 +156,13 @@ impl<T: Tower> Tower for Keyed<T> {
     }
 
     fn copy_op(&self, alloc: Global, op: &KeyOp<T::Op>) -> Result<KeyOp<T::Op>, NoMemory> {
-        let key = copy_key(alloc, &op.key)?;
+        let key = op.key.copy(alloc)?;
         let op = self.part.copy_op(alloc, &op.op)?;
         Ok(KeyOp { key, op })
     }
 
     fn same_op(&self, a: &KeyOp<T::Op>, b: &KeyOp<T::Op>) -> bool {
-        same_key(&a.key, &b.key) && self.part.same_op(&a.op, &b.op)
+        a.key == b.key && self.part.same_op(&a.op, &b.op)
     }
 
     fn copy_state(
@@ -172,7 +172,7 @@ impl<T: Tower> Tower for Keyed<T> {
     ) -> Result<KeyMap<T::State>, NoMemory> {
         let mut pairs = List::new(alloc);
         for pair in &state.pairs.items {
-            let key = copy_key(alloc, &pair.key)?;
+            let key = pair.key.copy(alloc)?;
             let state = self.part.copy_state(alloc, &pair.state)?;
             pairs.push(KeyState { key, state })?;
         }
@@ -182,7 +182,7 @@ impl<T: Tower> Tower for Keyed<T> {
     fn show(&self, alloc: Global, state: &KeyMap<T::State>) -> Result<Value, NoMemory> {
         let mut object = Map::new(alloc);
         for pair in &state.pairs.items {
-            let name = member_name(alloc, &pair.key)?;
+            let name = pair.key.to_string(alloc)?;
             let value = self.part.show(alloc, &pair.state)?;
             object.insert(name, value)?;
         }

@@ -1,7 +1,7 @@
 -- What the register of several texts keeps after sets in a causal order.
 use Rattle.std.proofs.Common.{◌≡◌, ℕ, suc, ◌<◌, true, false, not, List, [], ◌∷◌, Bool, cond, map, Contains, length, refl, ap, sym, subst, ◌∙◌, ◌⊎◌, ◌↔◌, inl, inr, arith}
 use Rattle.std.specs.List.{AllByRecursion, filter, list_all}
-use Rattle.std.proofs.lemmas.Bool.{and_parts, and_from, cases_Bool, not_from_false, not-true}
+use Rattle.std.proofs.lemmas.Bool.{and_from, cases_Bool, not_from_false, not-true}
 use Rattle.std.proofs.lemmas.Bool.Decides.{nat_tests}
 use Rattle.serde_json.specs.Data.{Data, array, string}
 use Rattle.serde_json.specs.View.{items_of}
@@ -13,8 +13,8 @@ use Rattle.crdt_laws.specs.declared.small.Entry.{Entry}
 use Rattle.crdt_laws.specs.Entry.{entry}
 use Rattle.crdt_laws.specs.Present.{apply_all}
 use Rattle.crdt_laws.specs.Sets.{AreApart, IsCausal, IsHonest, IsRising, canonical, place}
-use Rattle.crdt_laws.proofs.Filters.{all-filter, all-place, all_weaker}
-use Rattle.crdt_laws.proofs.Members.{Contains-canonical, Contains-cases, Contains-front, Contains-more, Contains-place, at_member, each, rising_same}
+use Rattle.crdt_laws.proofs.Filters.{all-place, all_true, all_weaker, rising-filter}
+use Rattle.crdt_laws.proofs.Members.{Contains-canonical, Contains-cases, Contains-front, Contains-more, Contains-place, at_member, each, filter_has, filter_inside, filter_passed, rising_same}
 use Rattle.crdt_laws.proofs.Place.{rising-canonical}
 use Rattle.register_crdts.specs.declared.several.Held.{Held}
 use Rattle.register_crdts.specs.Several.{AreRising, held, is_unknown, is_unseen, place_held, several_apply, several_meaning, several_show, texts_of}
@@ -25,33 +25,11 @@ E = Entry (List ℕ)
 
 -- lists
 
-passed : {X : Type 0} (p : X → Bool) (l : List X) → AllByRecursion (λ x. Contains l x × (p x ≡ true)) (filter p l)
-passed p [] = tt
-passed {X} p (a ∷ l) =
-    let rest : AllByRecursion (λ x. Contains (a ∷ l) x × (p x ≡ true)) (filter p l) =
-    all_weaker _ (λ x. Contains (a ∷ l) x × (p x ≡ true)) (λ x h. (Contains-more a l x h.0, h.1)) (filter p l) (passed p l) in
-    (elim (p a) as (λ b. p a ≡ b → AllByRecursion (λ x. Contains (a ∷ l) x × (p x ≡ true)) (cond b (a ∷ filter p l) (filter p l))) [
-      | true ↦ λ e. ((Contains-front a l, e), rest)
-      | false ↦ λ e. rest
-    ]) refl
-
-passing : {X : Type 0} (p : X → Bool) (l : List X) → AllByRecursion (λ x. p x ≡ true → Contains (filter p l) x) l
-passing p [] = tt
-passing {X} p (a ∷ l) =
-    (elim (p a) as (λ b. p a ≡ b → AllByRecursion (λ x. p x ≡ true → Contains (cond b (a ∷ filter p l) (filter p l)) x) (a ∷ l)) [
-      | true ↦ λ e. (λ h. Contains-front a (filter p l), all_weaker _ (λ x. p x ≡ true → Contains (a ∷ filter p l) x) (λ x h k. Contains-more a (filter p l) x (h k)) l (passing p l))
-      | false ↦ λ e. (λ h. cc, passing p l)
-    ]) refl
-
 contains-filter : {X : Type 0} (p : X → Bool) (l : List X) (x : X) → Contains (filter p l) x ↔ (Contains l x × (p x ≡ true))
 contains-filter p l x = (
-  λ c. at_member (λ y. Contains l y × (p y ≡ true)) (filter p l) x (passed p l) c,
-  λ h. at_member (λ y. p y ≡ true → Contains (filter p l) y) l x (passing p l) h.0 h.1,
+  λ c. (filter_inside p l x c, filter_passed p l x c),
+  λ h. filter_has p l x h.0 h.1,
 )
-
-each_passes : {X : Type 0} (p : X → Bool) (l : List X) → list_all p l ≡ true → AllByRecursion (λ x. p x ≡ true) l
-each_passes p [] h = tt
-each_passes p (a ∷ l) h = let k = and_parts (p a) (list_all p l) h in (k.0, each_passes p l k.1)
 
 all_pass : {X : Type 0} (p : X → Bool) (l : List X) → ((x : X) → Contains l x → p x ≡ true) → list_all p l ≡ true
 all_pass p [] h = refl
@@ -60,15 +38,6 @@ all_pass p (a ∷ l) h = and_from (p a) (list_all p l) (h a (Contains-front a l)
 from-place : (x : E) (l : List E) (e : E) → Contains (place x l) e → Contains (x ∷ l) e
 from-place x l e c =
     at_member (Contains (x ∷ l)) (place x l) e (all-place (Contains (x ∷ l)) x (Contains-front x l) l (all_weaker (Contains l) (Contains (x ∷ l)) (λ z k. Contains-more x l z k) l (each l))) c
-
-rising-filter : (p : E → Bool) (l : List E) → IsRising l → IsRising (filter p l)
-rising-filter p [] r = tt
-rising-filter p (a ∷ l) r =
-    let rest : IsRising (filter p l) = rising-filter p l r.1 in
-    elim (p a) as (λ b. IsRising (cond b (a ∷ filter p l) (filter p l))) [
-      | true ↦ (all-filter (λ h. is_below a.stamp h.stamp ≡ true) p l r.0, rest)
-      | false ↦ rest
-    ]
 
 -- the sets that are held, as operations
 
@@ -225,7 +194,7 @@ kept xs honest causal =
     only e h = elim h [ inl a ↦ absurd a | inr c ↦ c ]
 
 unseen_each : (xs : List E) (e : E) → is_unseen xs e ≡ true → (f : E) → Contains xs f → is_before e.stamp f.stamp ≡ false
-unseen_each xs e h f c = not-true (is_before e.stamp f.stamp) (at_member (λ (g : E). not (is_before e.stamp g.stamp) ≡ true) xs f (each_passes (λ (g : E). not (is_before e.stamp g.stamp)) xs h) c)
+unseen_each xs e h f c = not-true (is_before e.stamp f.stamp) (at_member (λ (g : E). not (is_before e.stamp g.stamp) ≡ true) xs f (all_true (λ (g : E). not (is_before e.stamp g.stamp)) xs h) c)
 
 unseen_from : (xs : List E) (e : E) → ((f : E) → Contains xs f → is_before e.stamp f.stamp ≡ false) → is_unseen xs e ≡ true
 unseen_from xs e h = all_pass (λ (g : E). not (is_before e.stamp g.stamp)) xs (λ f c. not_from_false (is_before e.stamp f.stamp) (h f c))

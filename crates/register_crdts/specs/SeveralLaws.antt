@@ -10,7 +10,7 @@ use Rattle.vector_clock.specs.Clock.{IsAtMost, count}
 use Rattle.vector_clock.specs.Stamp.{is_before, is_below, same_id, are_concurrent}
 use Rattle.vector_clock.proofs.Keys.{key_asym, key_total, key_trans, concurrent_other, concurrent_sym}
 use Rattle.crdt_laws.specs.Tower.{IsLawful, IsIssued, MaySwap}
-use Rattle.crdt_laws.proofs.Filters.{all-filter, all_weaker}
+use Rattle.crdt_laws.proofs.Filters.{all-filter, all_pass, all_weaker}
 use Rattle.register_crdts.specs.declared.several.Held.{Held}
 use Rattle.register_crdts.specs.Several.{AreRising, IsHeldOf, IsKnownTo, IsSeveralOf, held, is_unknown, place_held, several_apply, several_meaning}
 
@@ -97,15 +97,6 @@ commute n s p q x y may =
 removes_itself : (p : Stamp) (h : Held) → is_unknown p.clock h ≡ true → same_id p h.stamp ≡ false
 unfolding same_id
 removes_itself p h u = grind (arith, nat_tests)
-
--- what a filter keeps passes
-all_pass : (p : Held → Bool) (l : List Held) → AllByRecursion (λ h. p h ≡ true) (filter p l)
-all_pass p [] = tt
-all_pass p (a ∷ l) =
-    (elim (p a) as (λ b. p a ≡ b → AllByRecursion (λ h. p h ≡ true) (cond b (a ∷ filter p l) (filter p l))) [
-      | true ↦ λ e. (e, all_pass p l)
-      | false ↦ λ e. all_pass p l
-    ]) refl
 
 pub rising-apply : (s : List Held) (p : Stamp) (x : List ℕ) → AreRising s → AreRising (several_apply s p x)
 rising-apply s p x r =

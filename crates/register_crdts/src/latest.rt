@@ -1,4 +1,4 @@
-use crate::text::{copy_text, is_text_at, same_text, show_text};
+use crate::text::{is_text_at, show_text};
 use crdt_laws::{NoMemory, Tower, Txt};
 use serde_json::Value;
 use std::alloc::Global;
@@ -56,13 +56,13 @@ impl Tower for Latest {
             Some(set) if key <= set.key => Ok(Some(set)),
             _ => Ok(Some(Set {
                 key,
-                text: copy_text(alloc, op)?,
+                text: op.copy(alloc)?,
             })),
         }
     }
 
     fn act(&self, alloc: Global, _y: &Txt, x: &Txt) -> Result<Txt, NoMemory> {
-        copy_text(alloc, x)
+        x.copy(alloc)
     }
 
     fn settle(
@@ -75,11 +75,11 @@ impl Tower for Latest {
     }
 
     fn copy_op(&self, alloc: Global, op: &Txt) -> Result<Txt, NoMemory> {
-        copy_text(alloc, op)
+        op.copy(alloc)
     }
 
     fn same_op(&self, a: &Txt, b: &Txt) -> bool {
-        same_text(a, b)
+        a == b
     }
 
     fn copy_state(&self, alloc: Global, state: &Option<Set>) -> Result<Option<Set>, NoMemory> {
@@ -87,7 +87,7 @@ impl Tower for Latest {
             None => Ok(None),
             Some(set) => Ok(Some(Set {
                 key: set.key,
-                text: copy_text(alloc, &set.text)?,
+                text: set.text.copy(alloc)?,
             })),
         }
     }

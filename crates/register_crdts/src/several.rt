@@ -4,7 +4,7 @@ ghost use Rattle.vector_clock.specs.Clock.{covers};
 ghost use Rattle.vector_clock.specs.Stamp.{IsStamp, id_of, is_less};
 ghost use Rattle.register_crdts.specs.Several.{AreRising, held, is_unknown, place_held};
 
-use crate::text::{copy_text, is_text_at, same_text, show_text};
+use crate::text::{is_text_at, show_text};
 use crdt_laws::{List, NoMemory, Tower, Txt};
 use serde_json::Value;
 use std::alloc::Global;
@@ -117,7 +117,7 @@ impl Tower for Several {
         stamp: &Stamp,
         op: &Txt,
     ) -> Result<List<Held>, NoMemory> {
-        let text = copy_text(alloc, op)?;
+        let text = op.copy(alloc)?;
         let held = Held {
             stamp: *stamp,
             text,
@@ -126,7 +126,7 @@ impl Tower for Several {
     }
 
     fn act(&self, alloc: Global, _y: &Txt, x: &Txt) -> Result<Txt, NoMemory> {
-        copy_text(alloc, x)
+        x.copy(alloc)
     }
 
     fn settle(
@@ -139,17 +139,17 @@ impl Tower for Several {
     }
 
     fn copy_op(&self, alloc: Global, op: &Txt) -> Result<Txt, NoMemory> {
-        copy_text(alloc, op)
+        op.copy(alloc)
     }
 
     fn same_op(&self, a: &Txt, b: &Txt) -> bool {
-        same_text(a, b)
+        a == b
     }
 
     fn copy_state(&self, alloc: Global, state: &List<Held>) -> Result<List<Held>, NoMemory> {
         let mut copy = List::new(alloc);
         for held in &state.items {
-            let text = copy_text(alloc, &held.text)?;
+            let text = held.text.copy(alloc)?;
             copy.push(Held {
                 stamp: held.stamp,
                 text,

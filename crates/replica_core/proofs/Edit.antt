@@ -1,10 +1,8 @@
 -- The stamp of a member's next operation, and the replica once it is in.
 use Rattle.std.proofs.Common.{List, [], ◌∷◌, ◌++◌, ◌≡◌, ℕ, ◌+◌, ◌<◌, ◌≤◌, true, false, length, get_or, ap, ap₂, ◌∙◌, refl, sym, subst, inl, inr, arith, fold}
-use Rattle.std.specs.Prelude.{nat_le}
 use Rattle.std.specs.List.{All, AllByRecursion}
 use Rattle.std.proofs.Math.ListN.{set}
-use Rattle.std.proofs.lemmas.Bool.{cases_eq}
-use Rattle.std.proofs.lemmas.Bool.Decides.{nat_tests}
+use Rattle.std.proofs.lemmas.Bool.{cases_eq, lt-leb}
 use Rattle.std.proofs.lemmas.List.{get_or-set_other, get_or-set_same, length-set}
 use Rattle.std.proofs.lemmas.List.Elements.{All-append, All-from_recursion, All-get_or, All-set, recursion_from_All}
 use Rattle.std.proofs.lemmas.List.Sums.{fold_push}
@@ -110,9 +108,6 @@ rising_push : {Op : Type 0} (x : Entry Op) (xs : List (Entry Op)) → AllByRecur
 rising_push x [] h r = (tt, tt)
 rising_push x (a ∷ xs) h r = (all-append (λ d. is_below a.stamp d.stamp ≡ true) xs (x ∷ []) r.0 (h.0, tt), rising_push x xs h.1 r.1)
 
-not_le : (a b : ℕ) → b < a → nat_le a b ≡ false
-not_le a b h = grind (arith, nat_tests)
-
 -- a replica keeps what it does at another name of its number of members
 pub kept_from : {State Op : Type 0} (m : Meaning State Op) (r : Replica Op) (n : ℕ) → n ≡ members r → r.me < n → n ≤ 16 → All (IsKnown n) r.known → row r.known r.me ≡ version n r.delivered → AreKept m n r.delivered → AreKept m n r.waiting → IsKept m r
 kept_from m r n e = subst (λ k. r.me < k → k ≤ 16 → All (IsKnown k) r.known → row r.known r.me ≡ version k r.delivered → AreKept m k r.delivered → AreKept m k r.waiting → IsKept m r) (sym e)
@@ -160,7 +155,7 @@ module _ {State Op : Type 0} (m : Meaning State Op) (law : IsLawful m) where
         below_known (next_stamp r) d.stamp
         (record {
           knows = record { each = λ i. omega (arith, w.each i, up.each i) };
-          new = not_le (count (next latest r.me) r.me) (count d.stamp.clock r.me) (omega arith);
+          new = lt-leb (count (next latest r.me) r.me) (count d.stamp.clock r.me) (omega arith);
         })))
         r.delivered knows
 

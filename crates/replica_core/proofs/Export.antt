@@ -1,16 +1,14 @@
 -- A new replica, and the batch of an export.
-use Rattle.std.proofs.Common.{List, [], ◌∷◌, ◌≡◌, ℕ, ◌<◌, ◌≤◌, Bool, Option, true, false, cond, ap, ap₂, ◌∙◌, refl, sym, inl, inr, arith, replicate}
+use Rattle.std.proofs.Common.{List, [], ◌≡◌, ℕ, ◌<◌, ◌≤◌, Bool, Option, ap, ap₂, ◌∙◌, refl, sym, inl, inr, arith, replicate}
 use Rattle.std.proofs.lemmas.Bool.{cases_lt}
 use Rattle.std.proofs.lemmas.List.{get_or-replicate, get_or_past, length-replicate}
 use Rattle.std.specs.List.{filter}
 use Rattle.std.proofs.lemmas.List.Elements.{All-filter, All-get_or, All-replicate}
 use Rattle.vector_clock.specs.declared.clock.Clock.{Clock}
 use Rattle.vector_clock.specs.Clock.{count, zero_clock}
-use Rattle.vector_clock.specs.Stamp.{is_below}
 use Rattle.crdt_laws.specs.declared.small.Entry.{Entry}
 use Rattle.crdt_laws.specs.Tower.{IsIssued, Meaning}
-use Rattle.crdt_laws.specs.Sets.{IsRising}
-use Rattle.crdt_laws.proofs.Filters.{all-filter}
+use Rattle.crdt_laws.proofs.Filters.{rising-filter}
 use Rattle.replica_model.specs.Replica.{Batch, Replica, beyond, exported, left_out, members, new_replica, row}
 use Rattle.replica_core.specs.Kept.{AreKept, IsBatchUpTo, IsKept, IsKeptBatch, IsKnown, IsReplicaUpTo, IsUpTo}
 use Rattle.replica_core.proofs.Edit.{kept_from}
@@ -20,15 +18,6 @@ none_counted n j = elim (cases_lt j 16) [
   | inl h ↦ get_or-replicate 16 j 0 0 h
   | inr h ↦ get_or_past (replicate 16 0) j 0 h
 ]
-
-pub rising-filter : {Op : Type 0} (p : Entry Op → Bool) (xs : List (Entry Op)) → IsRising xs → IsRising (filter p xs)
-rising-filter p [] r = tt
-rising-filter p (a ∷ xs) r =
-    let rest = rising-filter p xs r.1 in
-    elim (p a) as (λ b. IsRising (cond b (a ∷ filter p xs) (filter p xs))) [
-      | true ↦ (all-filter (λ d. is_below a.stamp d.stamp ≡ true) p xs r.0, rest)
-      | false ↦ rest
-    ]
 
 pub kept-filter : {State Op : Type 0} (m : Meaning State Op) (n : ℕ) (p : Entry Op → Bool) (xs : List (Entry Op)) → AreKept m n xs → AreKept m n (filter p xs)
 kept-filter m n p xs h = record { issued = All-filter p (λ e. IsIssued m n e.stamp e.op) xs h.issued; rising = rising-filter p xs h.rising }

@@ -1,8 +1,9 @@
 -- The frontier of an honest set by key tells what all of the set's clocks have.
 use Rattle.std.proofs.Common.{List, [], ◌∷◌, ◌≡◌, ℕ, zero, suc, ◌+◌, ◌<◌, ◌≤◌, Bool, true, false, cond, ◌⊎◌, ◌↔◌, Contains, length, ap, ap₂, ◌∙◌, refl, sym, subst, inl, inr, arith, fold}
 use Rattle.std.specs.Prelude.{◌&&◌, ◌||◌, ◌==◌, nat_le}
+use Rattle.std.specs.Cmp.{both_ways}
 use Rattle.std.specs.List.{All, AllByRecursion, list_all, list_any, range_with_len}
-use Rattle.std.proofs.lemmas.Bool.{cases_eq, cases_lt, le-leb, leb-true}
+use Rattle.std.proofs.lemmas.Bool.{cases_eq, cases_lt, le-leb, leb-true, lt-leb}
 use Rattle.std.proofs.lemmas.Bool.Decides.{nat_tests}
 use Rattle.std.proofs.lemmas.List.{get_or-set_other, get_or-set_same, length-set}
 use Rattle.std.proofs.lemmas.List.Elements.{recursion_from_All}
@@ -15,6 +16,7 @@ use Rattle.crdt_laws.specs.declared.small.Entry.{Entry}
 use Rattle.crdt_laws.specs.Sets.{IsHonest, IsRising, has_all_of}
 use Rattle.crdt_laws.proofs.Filters.{all_both, all_weaker}
 use Rattle.crdt_laws.proofs.Members.{each}
+use Rattle.replica_model.proofs.Names.{all_in, in_all}
 use Rattle.replica_core.specs.Frontier.{counted, frontier, is_at_most}
 use Rattle.crdt_laws.specs.Tower.{max_seq}
 use Rattle.vector_clock.proofs.Clocks.{at_most_below}
@@ -171,9 +173,6 @@ runs_fold n m (e ∷ xs) k most wide all order =
     runs_more m (count k m) (count (counted k e) m) (count (fold counted (counted k e) xs) m) e xs (counted_step n k e m most wide all.0) order.0
     (runs_fold n m xs (counted k e) most (wide-counted k e wide) all.1 order.1)
 
-not_le : (a b : ℕ) → b < a → nat_le a b ≡ false
-not_le a b h = grind (arith, nat_tests)
-
 and_first : (a b : Bool) → a ≡ true → (a && b) ≡ b
 and_first a b h = grind arith
 
@@ -192,7 +191,7 @@ run_all p t filled ends (suc k) a some low = elim (cases_lt a (t + 1)) [
       ∙ ap (λ z. nat_le z (t + 1)) (next_sum a k)
   | inr l ↦
       (let q : a ≡ t + 1 = omega arith in
-      and_false (p a) (list_all p (range_with_len (a + 1) k)) (ap p q ∙ ends) ∙ sym (not_le (a + suc k) (t + 1) (omega arith)))
+      and_false (p a) (list_all p (range_with_len (a + 1) k)) (ap p q ∙ ends) ∙ sym (lt-leb (a + suc k) (t + 1) (omega arith)))
 ]
 
 le_suc : (a b : ℕ) → nat_le (1 + a) (b + 1) ≡ nat_le a b
@@ -215,33 +214,12 @@ frontier_exact n xs most all honest rising c =
     ∙ le_suc (count c m) (count (frontier n xs) m)))
     (range_with_len 0 16)
 
-bool_same : (a b : Bool) → (a ≡ true → b ≡ true) → (b ≡ true → a ≡ true) → a ≡ b
-bool_same true b h k = sym (h refl)
-bool_same false true h k = k refl
-bool_same false false h k = refl
-
-all_true : (p : ℕ → Bool) → ((m : ℕ) → p m ≡ true) → (ms : List ℕ) → list_all p ms ≡ true
-all_true p h [] = refl
-all_true p h (m ∷ ms) = and_first (p m) (list_all p ms) (h m) ∙ all_true p h ms
-
-and_parts : (a b : Bool) → (a && b) ≡ true → (a ≡ true) × (b ≡ true)
-and_parts a b h = (grind arith, grind arith)
-
-all_at : (p : ℕ → Bool) (k a m : ℕ) → list_all p (range_with_len a k) ≡ true → a ≤ m → m < a + k → p m ≡ true
-all_at p zero a m h low high = absurd (omega arith)
-all_at p (suc k) a m h low high =
-    let parts = and_parts (p a) (list_all p (range_with_len (a + 1) k)) h in
-    elim (cases_eq m a) [
-      | inl e ↦ ap p e ∙ parts.0
-      | inr e ↦ all_at p k (a + 1) m parts.1 (omega arith) (omega arith)
-    ]
-
 -- the test tells the order of clocks
 pub tells : (b : Bool) (k c : Clock) → length k.at ≡ 16 → (b ≡ true) ↔ IsAtMost k c → b ≡ is_at_most k c
 unfolding is_at_most
 tells b k c wide h =
-    bool_same b (is_at_most k c) (λ q. (let l = (h.0 q).each in all_true (λ m. nat_le (count k m) (count c m)) (λ m. le-leb (count k m) (count c m) (l m)) (range_with_len 0 16)))
-    (λ q. h.1 (at_most_below k c wide (λ m l. leb-true (count k m) (count c m) (all_at (λ j. nat_le (count k j) (count c j)) 16 0 m q (omega arith) l))))
+    both_ways b (is_at_most k c) (λ q. (let l = (h.0 q).each in in_all (λ m. nat_le (count k m) (count c m)) 0 16 (λ m _ _. le-leb (count k m) (count c m) (l m))))
+    (λ q. h.1 (at_most_below k c wide (λ m l. leb-true (count k m) (count c m) (all_in (λ j. nat_le (count k j) (count c j)) 0 16 q m (omega arith) l))))
 
 -- a clock with the next operation of a member is known
 pub known-counted : {Op : Type 0} (n : ℕ) (k : Clock) (e : Entry Op) → IsKnown n k → IsFrom n e → IsKnown n (with_entry k e.stamp.member (seq_of e))

@@ -6,10 +6,10 @@ use Rattle.vector_clock.specs.declared.clock.Clock.{Clock}
 use Rattle.vector_clock.specs.Stamp.{IsStamp}
 use Rattle.crdt_laws.specs.declared.small.Entry.{Entry}
 use Rattle.crdt_laws.specs.Sets.{IsHonest, has_all_of, together}
+use Rattle.crdt_laws.proofs.Filters.{rising-filter}
 use Rattle.replica_model.specs.Replica.{ready, unready}
 use Rattle.replica_core.specs.Frontier.{frontier, is_at_most}
 use Rattle.replica_core.specs.Rows.{AreByKey, IsFrom}
-use Rattle.replica_core.proofs.Export.{rising-filter}
 use Rattle.replica_core.proofs.Frontier.{frontier_exact}
 
 pub ok_both : {T E : Type 0} (r : Result T E) (P Q : T → Type 0) → IfOk r P → IfOk r Q → IfOk r (λ x. P x × Q x)

@@ -12,6 +12,7 @@ use Rattle.crdt_laws.specs.Tower.{IsIssued, IsLawful, Meaning}
 use Rattle.crdt_laws.specs.Sets.{IsHonest, together}
 use Rattle.crdt_laws.proofs.Filters.{all_both, all_weaker}
 use Rattle.replica_model.specs.Replica.{Batch, Replica, heard, heard_header, heard_op, members, merged, pooled, ready, row, unready, version}
+use Rattle.replica_model.proofs.Merged.{length-heard, length-heard_header}
 use Rattle.replica_core.specs.Kept.{AreKept, IsBatchUpTo, IsKept, IsKeptBatch, IsKnown, IsReplicaUpTo, IsUpTo}
 use Rattle.replica_core.specs.Rows.{AreByKey, IsFrom, rows_after}
 use Rattle.replica_core.proofs.Edit.{all_from, kept_from}
@@ -21,17 +22,6 @@ use Rattle.replica_core.proofs.Joins.{fold-joins, known-join, up_to-join}
 use Rattle.replica_core.proofs.Steps.{known_clock, with_row_known}
 
 -- rows
-
-length-heard : {Op : Type 0} (rows : List Clock) (xs : List (Entry Op)) → length (heard rows xs) ≡ length rows
-length-heard rows [] = refl
-length-heard rows (e ∷ xs) = length-heard (heard_op rows e) xs ∙ length-set rows e.stamp.member (join (row rows e.stamp.member) e.stamp.clock)
-
-length-heard_header : (rows : List Clock) (j : ℕ) (h d : Clock) → length (heard_header rows j h d) ≡ length rows
-length-heard_header rows j h d =
-    elim (nat_le (count h j) (count d j)) as (λ b. length (cond b (set rows j (join (row rows j) h)) rows) ≡ length rows) [
-      | true ↦ length-set rows j (join (row rows j) h)
-      | false ↦ refl
-    ]
 
 length-before : {Op : Type 0} (rows : List Clock) (j : ℕ) (h d : Clock) (xs : List (Entry Op)) → length (heard_header (heard rows xs) j h d) ≡ length rows
 length-before rows j h d xs = length-heard_header (heard rows xs) j h d ∙ length-heard rows xs

@@ -11,10 +11,6 @@ use Rattle.replica_core.specs.Kept.{IsKnown}
 use Rattle.replica_core.specs.Rows.{IsFrom}
 use Rattle.replica_core.proofs.Joins.{known-meet}
 
--- an item of a loop has what all have
-pub item_of : {X : Type 0} (P : X → Type 0) (xs : List X) (i : ℕ) (x : X) → All P xs → i < length xs → x ≡ get_or xs i x → P x
-item_of P xs i x h l is = subst P (sym is) (h i x l)
-
 pub known_clock : {Op : Type 0} (n : ℕ) (e : Entry Op) → IsFrom n e → IsKnown n e.stamp.clock
 known_clock n e h = record { clock = h.stamp.stamp.clock; members = h.stamp.members; within = h.within.each }
 

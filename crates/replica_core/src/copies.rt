@@ -9,15 +9,6 @@ use crdt_laws::{Entry, NoMemory, Ops, Tower, Txt};
 use std::alloc::Global;
 use vector_clock::Clock;
 
-/// A copy of the text.
-pub(crate) fn copy_text(alloc: Global, text: &Txt) -> Result<Txt, NoMemory>
-    ensures { IfOk result (λ t. t ≡ text.now) }
-{
-    Ok(Txt {
-        items: Vec::from_slice(alloc, text.items.as_slice())?,
-    })
-}
-
 /// Copies of the operations that the clock does not cover.
 pub(crate) fn copy_beyond<T: Tower>(
     alloc: Global,
@@ -63,7 +54,7 @@ pub fn copy_batch<T: Tower>(
     ensures { IfOk result (λ copy. copy ≡ batch.now) }
 {
     Ok(Batch {
-        doc: copy_text(alloc, &batch.doc)?,
+        doc: batch.doc.copy(alloc)?,
         sender: batch.sender,
         header: batch.header,
         ops: copy_ops(alloc, tower, batch.ops.as_slice())?,

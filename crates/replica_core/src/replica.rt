@@ -1,6 +1,6 @@
 ghost use Rattle.std.specs.Prelude.{◌≡◌};
 
-use crate::copies::{copy_beyond, copy_text};
+use crate::copies::copy_beyond;
 use crate::pool::sift;
 use crate::rows::{floor, row, rows_after, with_row};
 use crdt_laws::{List, NoMemory, Ops, Tower, Txt};
@@ -124,7 +124,7 @@ impl<T: Tower> Replica<T> {
             None => floor(&self.known),
         };
         Ok(Batch {
-            doc: copy_text(alloc, &self.doc)?,
+            doc: self.doc.copy(alloc)?,
             sender: self.me,
             header: row(&self.known, self.me),
             ops: copy_beyond(alloc, tower, &known, self.delivered.as_slice())?,

@@ -17,11 +17,11 @@ use Rattle.vector_clock.specs.Stamp.{id_of, same_id}
 use Rattle.crdt_laws.specs.declared.small.Entry.{Entry}
 use Rattle.crdt_laws.specs.Sets.{AreApart, IsClosed}
 use Rattle.crdt_laws.specs.Tower.{IsStampOf}
-use Rattle.crdt_laws.proofs.Members.{Contains-cases, Contains-front, Contains-more, at_member}
+use Rattle.crdt_laws.proofs.Filters.{apart-filter}
+use Rattle.crdt_laws.proofs.Members.{Contains-cases, Contains-front, Contains-more, at_member, filter_has, filter_inside, filter_passed}
 use Rattle.replica_model.specs.Replica.{version}
 use Rattle.replica_model.proofs.Names.{same_id_from_ids}
-use Rattle.replica_model.proofs.Pools.{apart-filter, each_from}
-use Rattle.replica_model.proofs.Ready.{filter_has, filter_inside, filter_passed}
+use Rattle.replica_model.proofs.Pools.{each_from}
 use Rattle.replica_model.proofs.Things.{Contains-map, none_distinct}
 use Rattle.replica_model.proofs.Versions.{version_has, version_knows}
 

@@ -11,14 +11,14 @@ use Rattle.crdt_laws.specs.declared.small.Entry.{Entry}
 use Rattle.crdt_laws.specs.Entry.{entry}
 use Rattle.crdt_laws.specs.Sets.{AreIssued, IsClosed, IsHonest, IsRising}
 use Rattle.crdt_laws.specs.Tower.{IsIssued, IsWithin, Meaning}
-use Rattle.crdt_laws.proofs.Members.{Contains-cases, Contains-front, Contains-more}
+use Rattle.crdt_laws.proofs.Both.{honest_part}
+use Rattle.crdt_laws.proofs.Filters.{rising-filter}
+use Rattle.crdt_laws.proofs.Members.{Contains-cases, Contains-front, Contains-more, filter_inside}
 use Rattle.replica_model.specs.Family.{IsHonestFamily, IsSoundReplica, MayMerge, Thing, WaitsIn, replica, batch, batches, operations, operations_of, replicas}
 use Rattle.replica_model.specs.Replica.{Replica, Batch, edited, exported, left_out, merged, new_replica, next_stamp}
 use Rattle.replica_model.proofs.Edits.{MayEdit, edited_grows, edited_has, edited_sound, honest_edited, in_edited_all, me-edited, next_stamp_is}
 use Rattle.replica_model.proofs.Merged.{in_merged, me-merged, merged_grows, merged_sound}
 use Rattle.replica_model.proofs.Names.{all_from_contains, any_from}
-use Rattle.replica_model.proofs.Pools.{rising-filter}
-use Rattle.replica_model.proofs.Ready.{filter_inside, honest_part}
 use Rattle.replica_model.proofs.Things.{batch_injective, batches_have, distinct_push, in_batches, in_operations, in_replicas, in_split, members_more, no_batch, none_distinct, one_by_member, operations_have, replicas-batch, replica_injective, replicas_have, same_members, split_has, split_it}
 
 -- what it has

@@ -4,13 +4,13 @@ use Rattle.std.proofs.lemmas.List.Elements.{All-contains, Contains-append_left, 
 use Rattle.vector_clock.specs.Stamp.{IsStamp}
 use Rattle.crdt_laws.specs.declared.small.Entry.{Entry}
 use Rattle.crdt_laws.specs.Sets.{IsHonest, IsRising}
+use Rattle.crdt_laws.proofs.Both.{honest_part}
 use Rattle.crdt_laws.proofs.Members.{rising_same}
 use Rattle.replica_model.specs.Family.{MayMerge}
 use Rattle.replica_model.specs.Replica.{Replica, Batch, merged, pooled, ready, unready}
 use Rattle.replica_model.proofs.Merged.{delivered-merged, delivered_rises, in_merged, merged_closed, merged_has, waiting-merged, waiting_rises}
 use Rattle.replica_model.proofs.Names.{all_from_contains}
 use Rattle.replica_model.proofs.Pools.{in_pooled, pooled_has, rising-pooled}
-use Rattle.replica_model.proofs.Ready.{honest_part}
 
 -- the operations of a replica and of two batches
 abbrev pub all_three : {Op : Type 0} → Replica Op → Batch Op → Batch Op → List (Entry Op)

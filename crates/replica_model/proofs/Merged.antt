@@ -9,11 +9,14 @@ use Rattle.vector_clock.specs.Clock.{count, join}
 use Rattle.vector_clock.specs.Stamp.{IsStamp}
 use Rattle.crdt_laws.specs.declared.small.Entry.{Entry}
 use Rattle.crdt_laws.specs.Sets.{IsClosed, IsHonest, IsRising, has_name, has_all_of}
+use Rattle.crdt_laws.proofs.Both.{honest_part}
+use Rattle.crdt_laws.proofs.Filters.{rising-filter}
+use Rattle.crdt_laws.proofs.Members.{filter_inside}
 use Rattle.replica_model.specs.Family.{IsSoundReplica, MayMerge, WaitsIn}
 use Rattle.replica_model.specs.Replica.{Replica, Batch, heard, heard_header, heard_op, merged, pooled, ready, row, unready, version, members}
 use Rattle.replica_model.proofs.Names.{all_from_contains, has_name_from, named_in, Misses}
-use Rattle.replica_model.proofs.Pools.{in_pooled, pooled_has, rising-pooled, rising-filter}
-use Rattle.replica_model.proofs.Ready.{closed_ready, filter_inside, honest_part, ready_apart, ready_closed, ready_or_not, unready_misses}
+use Rattle.replica_model.proofs.Pools.{in_pooled, pooled_has, rising-pooled}
+use Rattle.replica_model.proofs.Ready.{closed_ready, ready_apart, ready_closed, ready_or_not, unready_misses}
 
 -- its parts
 
@@ -35,11 +38,11 @@ doc-merged r b = refl
 
 -- its rows are as many
 
-length-heard : {Op : Type 0} (rows : List Clock) (xs : List (Entry Op)) → length (heard rows xs) ≡ length rows
+pub length-heard : {Op : Type 0} (rows : List Clock) (xs : List (Entry Op)) → length (heard rows xs) ≡ length rows
 length-heard rows [] = refl
 length-heard rows (x ∷ xs) = length-heard (heard_op rows x) xs ∙ length-set rows x.stamp.member (join (row rows x.stamp.member) x.stamp.clock)
 
-length-heard_header : (rows : List Clock) (sender : ℕ) (h d : Clock) → length (heard_header rows sender h d) ≡ length rows
+pub length-heard_header : (rows : List Clock) (sender : ℕ) (h d : Clock) → length (heard_header rows sender h d) ≡ length rows
 length-heard_header rows sender h d =
     cond_both (nat_le (count h sender) (count d sender)) (slice_set rows sender (join (row rows sender) h)) rows (λ (l : List Clock). length l ≡ length rows)
     (λ _. length-set rows sender (join (row rows sender) h))

@@ -54,7 +54,7 @@ named_in {Op} xs i h =
 
 -- tests over a range
 
-all_in : (p : ℕ → Bool) (a n : ℕ) → list_all p (range_with_len a n) ≡ true → (x : ℕ) → a ≤ x → x < a + n → p x ≡ true
+pub all_in : (p : ℕ → Bool) (a n : ℕ) → list_all p (range_with_len a n) ≡ true → (x : ℕ) → a ≤ x → x < a + n → p x ≡ true
 all_in p a zero h x l m = absurd (omega arith)
 all_in p a (suc n) h x l m =
     let f = and_parts (p a) (list_all p (range_with_len (a + 1) n)) h in
@@ -63,7 +63,7 @@ all_in p a (suc n) h x l m =
       | inr ne ↦ all_in p (a + 1) n f.1 x (omega arith) (omega arith)
     ]
 
-in_all : (p : ℕ → Bool) (a n : ℕ) → ((x : ℕ) → a ≤ x → x < a + n → p x ≡ true) → list_all p (range_with_len a n) ≡ true
+pub in_all : (p : ℕ → Bool) (a n : ℕ) → ((x : ℕ) → a ≤ x → x < a + n → p x ≡ true) → list_all p (range_with_len a n) ≡ true
 in_all p a zero h = refl
 in_all p a (suc n) h =
     and_from (p a) (list_all p (range_with_len (a + 1) n)) (h a (omega arith) (omega arith))

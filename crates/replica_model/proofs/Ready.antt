@@ -1,9 +1,8 @@
 -- What is ready in an honest set is closed, and what is not ready has cause to wait.
-use Rattle.std.proofs.Common.{◌≡◌, ◌<◌, ◌≤◌, Bool, true, false, List, [], ◌∷◌, ap, sym, ◌∙◌, subst, arith, Contains, inl, inr, ◌⊎◌}
-use Rattle.std.specs.Prelude.{not, filter}
+use Rattle.std.proofs.Common.{◌≡◌, ◌<◌, ◌≤◌, Bool, true, false, List, sym, subst, arith, Contains, inl, inr, ◌⊎◌}
+use Rattle.std.specs.Prelude.{not}
 use Rattle.std.specs.List.{Any}
-use Rattle.std.proofs.lemmas.Bool.{cases_Bool, cases_lt, cond_both, leb-true, le-leb, both_ways, not-true, not_from_false}
-use Rattle.std.proofs.lemmas.List.Elements.{All-filter, All-contains, All-contains_itself, filter_passes}
+use Rattle.std.proofs.lemmas.Bool.{cases_Bool, cases_lt, leb-true, le-leb, both_ways, not-true, not_from_false}
 use Rattle.vector_clock.specs.declared.clock.Clock.{Clock}
 use Rattle.vector_clock.specs.declared.clock.Id.{Id}
 use Rattle.vector_clock.specs.declared.stamp.Stamp.{Stamp}
@@ -11,38 +10,9 @@ use Rattle.vector_clock.specs.Clock.{IsAtMost, IsClock, count, covers}
 use Rattle.vector_clock.specs.Stamp.{IsStamp, id_of, is_before, same_id}
 use Rattle.crdt_laws.specs.declared.small.Entry.{Entry}
 use Rattle.crdt_laws.specs.Sets.{IsHonest, IsClosed, has_all_of}
-use Rattle.crdt_laws.proofs.Members.{Contains-cases, Contains-front, Contains-more}
+use Rattle.crdt_laws.proofs.Members.{filter_has, filter_inside, filter_passed}
 use Rattle.replica_model.specs.Replica.{ready, unready}
 use Rattle.replica_model.proofs.Names.{any_from, has_name_from, named_in, all_names, from_all_names, missing_name, Misses}
-
--- filters
-
-pub filter_inside : {X : Type 0} (p : X → Bool) (xs : List X) (x : X) → Contains (filter p xs) x → Contains xs x
-filter_inside p xs x c = All-contains (Contains xs) (filter p xs) x (All-filter p (Contains xs) xs (All-contains_itself xs)) c
-
-pub filter_passed : {X : Type 0} (p : X → Bool) (xs : List X) (x : X) → Contains (filter p xs) x → p x ≡ true
-filter_passed p xs x c = All-contains (λ y. p y ≡ true) (filter p xs) x (filter_passes p xs) c
-
-pub filter_has : {X : Type 0} (p : X → Bool) (xs : List X) (x : X) → Contains xs x → p x ≡ true → Contains (filter p xs) x
-filter_has p [] x c h = let l : c.0 < 0 = c.1 in absurd (omega arith)
-filter_has p (y ∷ xs) x c h =
-    let cases = Contains-cases y xs x c in
-    cond_both (p y) (y ∷ filter p xs) (filter p xs) (λ l. Contains l x)
-    (λ _. elim cases [
-      | inl q ↦ subst (λ z. Contains (y ∷ filter p xs) z) q (Contains-front y (filter p xs))
-      | inr j ↦ Contains-more y (filter p xs) x (filter_has p xs x j h)
-    ])
-    (λ f. elim cases [
-      | inl q ↦ absurd (both_ways (p y) f (ap p q ∙ h))
-      | inr j ↦ filter_has p xs x j h
-    ])
-
--- a part of an honest set
-pub honest_part : {Op : Type 0} (xs ys : List (Entry Op)) → IsHonest xs → ((e : Entry Op) → Contains ys e → Contains xs e) → IsHonest ys
-honest_part xs ys h part = record {
-  same = λ a b c d s. h.same a b (part a c) (part b d) s;
-  known = λ a b c d s. h.known a b (part a c) (part b d) s;
-}
 
 -- clocks
 

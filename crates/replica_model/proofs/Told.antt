@@ -8,14 +8,14 @@ use Rattle.vector_clock.specs.Stamp.{id_of}
 use Rattle.crdt_laws.specs.declared.small.Entry.{Entry}
 use Rattle.crdt_laws.specs.Sets.{AreApart, AreIssued, IsHonest}
 use Rattle.crdt_laws.specs.Tower.{IsIssued, IsStampOf, Meaning}
+use Rattle.crdt_laws.proofs.Both.{honest_part, rising_apart}
 use Rattle.crdt_laws.proofs.Members.{rising_same}
 use Rattle.replica_model.specs.Family.{IsHonestFamily, Thing, operations, replica}
 use Rattle.replica_model.specs.Replica.{Replica, version}
 use Rattle.replica_model.proofs.Counted.{version_counts}
 use Rattle.replica_model.proofs.Families.{issued_at, replica_inside, sound_at}
 use Rattle.replica_model.proofs.Names.{all_from_contains, same_id_from_ids}
-use Rattle.replica_model.proofs.Pools.{rising_apart}
-use Rattle.replica_model.proofs.Ready.{covers_on, honest_part}
+use Rattle.replica_model.proofs.Ready.{covers_on}
 use Rattle.replica_model.proofs.Versions.{version_below, version_has, version_knows}
 
 module _ {State Op : Type 0} (m : Meaning State Op) (n : ℕ) (ts : List (Thing Op)) (family : IsHonestFamily m n ts) where
@@ -33,7 +33,7 @@ module _ {State Op : Type 0} (m : Meaning State Op) (n : ℕ) (ts : List (Thing 
     delivered_stamped e c = (issued_at m n ts family e (delivered_inside e c)).stamp
 
     pub delivered_apart : AreApart r.delivered
-    delivered_apart = rising_apart (operations ts) r.delivered family.honest delivered_inside (sound_at m n ts family r there).delivered_by_key
+    delivered_apart = rising_apart r.delivered delivered_honest (sound_at m n ts family r there).delivered_by_key
 
     pub replica_counts : (i : ℕ) → count (version n r.delivered) i ≡ count_by (λ e. eqb e.stamp.member i) r.delivered
     replica_counts i = version_counts n r.delivered delivered_stamped (sound_at m n ts family r there).closed delivered_apart i

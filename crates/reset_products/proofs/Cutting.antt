@@ -1,7 +1,7 @@
 -- The pass from the end of a log that finds its longest clean prefix.
 use Rattle.std.proofs.Common.{◌≡◌, ℕ, zero, suc, ◌+◌, ◌-◌, ◌≤◌, ◌<◌, Bool, true, false, ◌&&◌, List, [], ◌∷◌, refl, ap, sym, ◌∙◌, subst, arith, length, take, drop, get_or, min}
 use Rattle.std.specs.List.{All, AllByRecursion, list_all}
-use Rattle.std.proofs.lemmas.Bool.{false_from_ne_true}
+use Rattle.std.proofs.lemmas.Bool.{and_from, and_parts, false_from_ne_true}
 use Rattle.std.proofs.lemmas.Bool.Decides.{nat_tests}
 use Rattle.std.proofs.lemmas.List.{get_or-take}
 use Rattle.std.proofs.lemmas.List.Elements.{All-from_recursion, recursion_from_All}
@@ -15,11 +15,11 @@ use Rattle.vector_clock.proofs.Keys.{before_covers}
 use Rattle.crdt_laws.specs.declared.small.Entry.{Entry}
 use Rattle.crdt_laws.specs.Sets.{AreApart}
 use Rattle.crdt_laws.specs.Tower.{IsStampOf}
-use Rattle.crdt_laws.proofs.Filters.{all_weaker}
+use Rattle.crdt_laws.proofs.Filters.{all_true, all_weaker, true_all}
 use Rattle.crdt_laws.proofs.Ready.{drop_item}
 use Rattle.weave_core.proofs.Placed.{all_drop, all_take}
 use Rattle.reset_products.specs.Cut.{clean_cut, greatest, is_clean_prefix}
-use Rattle.reset_products.specs.CutLaws.{IsClean, all_true, both_from, both_true, clean_from, clean_to, greatest_at, greatest_skip, length-take_cut, true_all}
+use Rattle.reset_products.specs.CutLaws.{IsClean, clean_from, clean_to, greatest_at, greatest_skip, length-take_cut}
 
 -- whether the clock and all of ys know of the operation at p
 abbrev pub know : {Op : Type 0} → Clock → List (Entry Op) → Stamp → Bool
@@ -86,7 +86,7 @@ module _ {Op : Type 0} (k : Clock) (log : List (Entry Op)) where
       let len : length (take n log) ≡ n = length-take_cut n log (omega arith) in
       let at : P (get_or (take n log) j e) = All-from_recursion P (take n log) c j e (omega arith) in
       let here : P e = subst P (get_or-take n log j e l ∙ sym is) at in
-      both_from (covers k (id_of e.stamp)) (list_all (λ y. covers y.stamp.clock (id_of e.stamp)) (drop cut log)) here.0
+      and_from (covers k (id_of e.stamp)) (list_all (λ y. covers y.stamp.clock (id_of e.stamp)) (drop cut log)) here.0
       (true_all (λ (y : Entry Op). covers y.stamp.clock (id_of e.stamp)) (drop cut log)
       (all_weaker (λ (y : Entry Op). is_before e.stamp y.stamp ≡ true) (λ y. covers y.stamp.clock (id_of e.stamp) ≡ true) (λ y b. before_covers e.stamp y.stamp b) (drop cut log)
       (later_ones (λ (y : Entry Op). is_before e.stamp y.stamp ≡ true) n cut log m here.1)))
@@ -174,7 +174,7 @@ module _ {Op : Type 0} (k known : Clock) (ys : List (Entry Op)) (h : KnowsAs k y
   clean_passed (x ∷ xs) c s d =
       let member : x.stamp.member < 16 = (let a : x.stamp.member < x.stamp.clock.n = s.0.stamp.member in let b : x.stamp.clock.n ≤ 16 = s.0.stamp.clock.most in omega arith) in
       let all : know k ys x.stamp ≡ true = sym (h.same x.stamp member) ∙ c.0 in
-      let two = both_true (covers k (id_of x.stamp)) (list_all (λ y. covers y.stamp.clock (id_of x.stamp)) ys) all in
+      let two = and_parts (covers k (id_of x.stamp)) (list_all (λ y. covers y.stamp.clock (id_of x.stamp)) ys) all in
       ((two.0, befores x.stamp ys (all_true (λ (y : Entry Op). covers y.stamp.clock (id_of x.stamp)) ys two.1) d.0), clean_passed xs c.1 s.1 d.1)
 
 -- all operations are passed

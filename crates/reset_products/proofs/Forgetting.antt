@@ -13,8 +13,7 @@ use Rattle.crdt_laws.specs.Entry.{entry}
 use Rattle.crdt_laws.specs.Present.{apply_all}
 use Rattle.crdt_laws.specs.Sets.{AreApart, IsCausal, canonical, place}
 use Rattle.crdt_laws.specs.Tower.{Meaning}
-use Rattle.crdt_laws.proofs.Both.{apart-filter}
-use Rattle.crdt_laws.proofs.Filters.{all-filter}
+use Rattle.crdt_laws.proofs.Filters.{all-filter, apart-filter}
 use Rattle.crdt_laws.proofs.Place.{place_swap, rising-canonical}
 use Rattle.weave_core.specs.Deliver.{is_outside}
 use Rattle.weave_core.proofs.Placed.{filter-place, filter-place_in}

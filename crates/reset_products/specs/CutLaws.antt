@@ -1,7 +1,8 @@
 -- What the longest clean prefix of a log keeps, and how it changes with the log.
 use Rattle.std.proofs.Common.{◌≡◌, ℕ, zero, suc, ◌+◌, ◌≤◌, ◌<◌, Bool, true, false, ◌&&◌, List, [], ◌∷◌, ◌++◌, cond, refl, ap, ap₂, inl, inr, sym, ◌∙◌, arith, length, take, drop, add-suc}
+use Rattle.std.specs.Cmp.{both_ways}
 use Rattle.std.specs.List.{AllByRecursion, list_all}
-use Rattle.std.proofs.lemmas.Bool.{cases_lt, false_from_ne_true}
+use Rattle.std.proofs.lemmas.Bool.{and_from, and_parts, cases_lt, false_from_ne_true}
 use Rattle.std.proofs.lemmas.List.{take-append-drop}
 use Rattle.std.proofs.lemmas.List.Folds.{list_all-append}
 use Rattle.std.proofs.Math.Seq.{drop-append-add, take-append-add}
@@ -11,7 +12,7 @@ use Rattle.vector_clock.specs.Clock.{IsAtMost, count, covers}
 use Rattle.vector_clock.specs.Stamp.{IsAfter, id_of, is_before, is_below, same_id}
 use Rattle.crdt_laws.specs.declared.small.Entry.{Entry}
 use Rattle.crdt_laws.specs.Sets.{place}
-use Rattle.crdt_laws.proofs.Filters.{all-place, all_weaker}
+use Rattle.crdt_laws.proofs.Filters.{all-place, all_true, all_weaker, true_all}
 use Rattle.vector_clock.proofs.Causal.{covers_past}
 use Rattle.vector_clock.proofs.Keys.{below_known, covers_more, key_asym}
 use Rattle.std.proofs.lemmas.Bool.Decides.{nat_tests}
@@ -91,26 +92,11 @@ greatest_from test a (suc n) z h =
 abbrev pub IsClean : {Op : Type 0} → Clock → List (Entry Op) → List (Entry Op) → Type 0
 IsClean k xs ys = AllByRecursion (λ x. (covers k (id_of x.stamp) ≡ true) × AllByRecursion (λ y. is_before x.stamp y.stamp ≡ true) ys) xs
 
-pub both_true : (a b : Bool) → (a && b) ≡ true → (a ≡ true) × (b ≡ true)
-both_true true b h = (refl, h)
-both_true false b h = absurd cc
-
-pub both_from : (a b : Bool) → a ≡ true → b ≡ true → (a && b) ≡ true
-both_from a b h k = cc
-
-pub all_true : {X : Type 0} (p : X → Bool) (l : List X) → list_all p l ≡ true → AllByRecursion (λ x. p x ≡ true) l
-all_true p [] h = tt
-all_true p (a ∷ l) h = let both = both_true (p a) (list_all p l) h in (both.0, all_true p l both.1)
-
-pub true_all : {X : Type 0} (p : X → Bool) (l : List X) → AllByRecursion (λ x. p x ≡ true) l → list_all p l ≡ true
-true_all p [] h = refl
-true_all p (a ∷ l) h = both_from (p a) (list_all p l) h.0 (true_all p l h.1)
-
 pub clean_from : {Op : Type 0} (k : Clock) (xs ys : List (Entry Op)) → is_clean k xs ys ≡ true → IsClean k xs ys
 clean_from {Op} k xs ys h =
     all_weaker (λ (x : Entry Op). (covers k (id_of x.stamp) && list_all (λ y. is_before x.stamp y.stamp) ys) ≡ true)
     (λ x. (covers k (id_of x.stamp) ≡ true) × AllByRecursion (λ y. is_before x.stamp y.stamp ≡ true) ys)
-    (λ x e. let both = both_true (covers k (id_of x.stamp)) (list_all (λ y. is_before x.stamp y.stamp) ys) e in (both.0, all_true (λ (y : Entry Op). is_before x.stamp y.stamp) ys both.1))
+    (λ x e. let both = and_parts (covers k (id_of x.stamp)) (list_all (λ y. is_before x.stamp y.stamp) ys) e in (both.0, all_true (λ (y : Entry Op). is_before x.stamp y.stamp) ys both.1))
     xs (all_true (λ (x : Entry Op). covers k (id_of x.stamp) && list_all (λ y. is_before x.stamp y.stamp) ys) xs h)
 
 pub clean_to : {Op : Type 0} (k : Clock) (xs ys : List (Entry Op)) → IsClean k xs ys → is_clean k xs ys ≡ true
@@ -118,7 +104,7 @@ clean_to {Op} k xs ys h =
     true_all (λ (x : Entry Op). covers k (id_of x.stamp) && list_all (λ y. is_before x.stamp y.stamp) ys) xs
     (all_weaker (λ (x : Entry Op). (covers k (id_of x.stamp) ≡ true) × AllByRecursion (λ y. is_before x.stamp y.stamp ≡ true) ys)
     (λ x. (covers k (id_of x.stamp) && list_all (λ y. is_before x.stamp y.stamp) ys) ≡ true)
-    (λ x e. both_from (covers k (id_of x.stamp)) (list_all (λ y. is_before x.stamp y.stamp) ys) e.0 (true_all (λ (y : Entry Op). is_before x.stamp y.stamp) ys e.1)) xs h)
+    (λ x e. and_from (covers k (id_of x.stamp)) (list_all (λ y. is_before x.stamp y.stamp) ys) e.0 (true_all (λ (y : Entry Op). is_before x.stamp y.stamp) ys e.1)) xs h)
 
 -- the cut is a clean prefix, and no longer one is
 
@@ -137,11 +123,6 @@ unfolding clean_cut
 cut_longest log k n m h = greatest_last (is_clean_prefix k log) (length log) n m h
 
 -- one more operation, which the clock does not cover and which knows all that it covers
-
-bool_same : (a b : Bool) → (a ≡ true → b ≡ true) → (b ≡ true → a ≡ true) → a ≡ b
-bool_same true b h k = sym (h refl)
-bool_same false true h k = k refl
-bool_same false false h k = refl
 
 length-place : {Op : Type 0} (x : Entry Op) (l : List (Entry Op)) → length (place x l) ≡ suc (length l)
 length-place x [] = refl
@@ -259,7 +240,7 @@ module _ {Op : Type 0} (k : Clock) (x : Entry Op) (after : IsAfter k x.stamp) wh
       let test = is_clean_prefix k (place x l) in
       ap (greatest test) (length-place x l)
       ∙ ap (λ b. cond b (suc (length l)) (greatest test (length l))) (whole_not_clean l)
-      ∙ greatest_same test (is_clean_prefix k l) (length l) (λ n m. bool_same (test n) (is_clean_prefix k l n) (unplaced_clean l n) (placed_clean l w n m))
+      ∙ greatest_same test (is_clean_prefix k l) (length l) (λ n m. both_ways (test n) (is_clean_prefix k l n) (unplaced_clean l n) (placed_clean l w n m))
 
   cut_behind : (l : List (Entry Op)) → AreWithin k l → IsBehind x (take (clean_cut l k) l)
   cut_behind l w = let c = clean_cut l k in clean_behind (take c l) (drop c l) (within_take c l w) (cut_clean l k)

@@ -17,12 +17,11 @@ use Rattle.crdt_laws.specs.Entry.{entry}
 use Rattle.crdt_laws.specs.Present.{document_from}
 use Rattle.crdt_laws.specs.Sets.{AreIssued, place}
 use Rattle.crdt_laws.specs.Tower.{Meaning, IsLawful, IsIssued, IsWithin, Lacks, Agrees, MaySwap}
-use Rattle.crdt_laws.proofs.Both.{apart-filter}
-use Rattle.crdt_laws.proofs.Filters.{all-filter, all-place, all_weaker}
+use Rattle.crdt_laws.proofs.Filters.{all-filter, all-place, all_pass, all_weaker, apart-filter, rising-filter}
 use Rattle.crdt_laws.proofs.Members.{at_member, each}
 use Rattle.crdt_laws.proofs.Place.{place_swap, rising-place}
 use Rattle.weave_core.specs.Deliver.{is_outside}
-use Rattle.weave_core.proofs.Placed.{all_drop, all_take, apart-drop, apart-place, filter-place_in, filter_none, filter_passes, filter_swap, rising-drop, rising-filter}
+use Rattle.weave_core.proofs.Placed.{all_drop, all_take, apart-drop, apart-place, filter-place_in, filter_none, filter_swap, rising-drop}
 use Rattle.weave_core.proofs.Runs
 use Rattle.weave_core.proofs.Split.{AreBefore, document_from-append}
 use Rattle.reset_products.specs.declared.observed.ObservedOp.{ObservedOp}
@@ -72,7 +71,7 @@ reset_behind {O} k p c log m h =
 left_uncovered : {O : Type 0} (k : Clock) (p : Stamp) (log : List (Entry O)) → IsAtMost k p.clock → AllByRecursion (λ e. covers k (id_of e.stamp) ≡ false) (filter (is_outside p.clock) log)
 left_uncovered {O} k p log m =
     all_weaker (λ (e : Entry O). is_outside p.clock e ≡ true) (λ e. covers k (id_of e.stamp) ≡ false) (λ e h. covers_more k p.clock e.stamp m (outside_not p.clock e h))
-    (filter (is_outside p.clock) log) (filter_passes (is_outside p.clock) log)
+    (filter (is_outside p.clock) log) (all_pass (is_outside p.clock) log)
 
 clean_covered : {O : Type 0} (k : Clock) (xs ys : List (Entry O)) → IsClean k xs ys → AllByRecursion (λ e. covers k (id_of e.stamp) ≡ true) xs
 clean_covered {O} k xs ys h = all_weaker (λ (x : Entry O). (covers k (id_of x.stamp) ≡ true) × AllByRecursion (λ (y : Entry O). is_before x.stamp y.stamp ≡ true) ys) (λ x. covers k (id_of x.stamp) ≡ true) (λ x e. e.0) xs h

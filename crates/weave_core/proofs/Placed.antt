@@ -22,15 +22,6 @@ pub filter_none : {X : Type 0} (p : X → Bool) (l : List X) → AllByRecursion 
 filter_none p [] h = refl
 filter_none p (a ∷ l) h = let ih : filter p l ≡ [] = filter_none p l h.1 in let e : p a ≡ false = h.0 in grind (arith, ih)
 
--- what a filter leaves passes it
-pub filter_passes : {X : Type 0} (p : X → Bool) (l : List X) → AllByRecursion (λ x. p x ≡ true) (filter p l)
-filter_passes p [] = tt
-filter_passes p (a ∷ l) =
-    (elim (p a) as (λ b. p a ≡ b → AllByRecursion (λ x. p x ≡ true) (cond b (a ∷ filter p l) (filter p l))) [
-      | true ↦ λ e. (e, filter_passes p l)
-      | false ↦ λ _. filter_passes p l
-    ]) refl
-
 pub filter-place : {Op : Type 0} (p : Entry Op → Bool) (x : Entry Op) → p x ≡ false → (l : List (Entry Op)) → filter p (place x l) ≡ filter p l
 filter-place p x h [] = cc
 filter-place p x h (a ∷ l) = let ih : filter p (place x l) ≡ filter p l = filter-place p x h l in grind (arith, ih)
@@ -51,14 +42,6 @@ filter-place_in {Op} p x h (a ∷ l) r =
           now ∙ sym front
       | false ↦ λ e. grind (arith, ih)
     ]) refl
-
-pub rising-filter : {Op : Type 0} (p : Entry Op → Bool) (l : List (Entry Op)) → IsRising l → IsRising (filter p l)
-rising-filter p [] r = tt
-rising-filter {Op} p (a ∷ l) r =
-    elim (p a) as (λ b. IsRising (cond b (a ∷ filter p l) (filter p l))) [
-      | true ↦ (all-filter (λ (e : Entry Op). is_below a.stamp e.stamp ≡ true) p l r.0, rising-filter p l r.1)
-      | false ↦ rising-filter p l r.1
-    ]
 
 pub apart-place : {Op : Type 0} (x : Entry Op) (l : List (Entry Op)) → AllByRecursion (λ e. same_id x.stamp e.stamp ≡ false) l → AreApart l → AreApart (place x l)
 apart-place x [] d r = (tt, tt)

@@ -2,11 +2,12 @@ use Rattle.std.proofs.Common.{◌≡◌, ◌∙◌, ◌+◌, ap, subst, sym}
 use Rattle.vector_clock.specs.declared.clock.Id.{Id}
 use Rattle.vector_clock.specs.Clock.{count, with_entry, zero_clock}
 use Rattle.vector_clock.specs.Stamp.{id_of}
+use Rattle.crdt_laws.proofs.Loops.{item_of}
 use Rattle.replica_core.specs.Frontier.{counted}
 use Rattle.replica_core.specs.Kept.{IsKnown}
 use Rattle.replica_core.specs.Rows.{IsFrom}
 use Rattle.replica_core.proofs.Frontier.{counted_hit, counted_miss, known-counted}
-use Rattle.replica_core.proofs.Steps.{fold_item, item_of}
+use Rattle.replica_core.proofs.Steps.{fold_item}
 use Rattle.replica_core.proofs.pool.frontier.Goals as goal
 use Rattle.replica_core.proofs.pool.frontier.Goals.{then-id-count, else-id-count}
 

@@ -2,11 +2,12 @@ use Rattle.std.proofs.Common.{◌∙◌, ◌≡◌, ◌<◌, ap, length, subst, 
 use Rattle.std.specs.List.{All}
 use Rattle.std.proofs.Math.ListN.{set, length-set}
 use Rattle.vector_clock.specs.Clock.{join}
+use Rattle.crdt_laws.proofs.Loops.{item_of}
 use Rattle.replica_model.specs.Replica.{heard_op, row}
 use Rattle.replica_core.specs.Kept.{IsKnown}
 use Rattle.replica_core.specs.Rows.{IsFrom}
 use Rattle.replica_core.proofs.Joins.{known-join}
-use Rattle.replica_core.proofs.Steps.{fold_item, item_of, known_clock, with_row_known}
+use Rattle.replica_core.proofs.Steps.{fold_item, known_clock, with_row_known}
 use Rattle.replica_core.proofs.rows.heard.Goals as goal
 
 pub loop-e-preserved : goal.loop-e-preserved

@@ -1,9 +1,10 @@
 use Rattle.std.proofs.Common.{subst, sym}
 use Rattle.vector_clock.specs.Clock.{join, zero_clock}
+use Rattle.crdt_laws.proofs.Loops.{item_of}
 use Rattle.replica_core.specs.Kept.{IsKnown}
 use Rattle.replica_core.specs.Rows.{IsFrom}
 use Rattle.replica_core.proofs.Joins.{known-join}
-use Rattle.replica_core.proofs.Steps.{fold_item, item_of, known_clock}
+use Rattle.replica_core.proofs.Steps.{fold_item, known_clock}
 use Rattle.replica_core.proofs.rows.version.Goals as goal
 
 pub loop-e-preserved : goal.loop-e-preserved

@@ -16,7 +16,7 @@ returns g c =
       | in-Some w ↦ w.known-is ∙ w.row-known.ensures ∙ sym (ap (left_out p) w.in-Some.is)
       | in-None w ↦ w.known-is ∙ w.floor-known.ensures.floor ∙ sym (ap (left_out p) w.in-None.is)
     ] in
-    let step = sent_from p r to c.in_ok-copy_text.field-0 c.row.result c.match-to.known c.as_slice.result.now c.in_ok-copy_beyond.field-0 c.self.view_is c.in_ok-copy_text.ensures c.row.ensures out c.as_slice.ensures c.in_ok-copy_beyond.ensures in
+    let step = sent_from p r to c.in_ok-copy.field-0 c.row.result c.match-to.known c.as_slice.result.now c.in_ok-copy_beyond.field-0 c.self.view_is c.in_ok-copy.ensures c.row.ensures out c.as_slice.ensures c.in_ok-copy_beyond.ensures in
     record {
       exported = step ∙ sent_is t r to kept;
       kept = subst (IsKeptBatch t (members r)) (sym step) (kept_sent t r to kept);
