@@ -1,3 +1,4 @@
 pub mod Places
 pub mod Presence
 pub mod Steps
+pub mod Swaps

@@ -1,6 +1,6 @@
 -- Where a key stands among rising keys, and what is read and written there.
-use Rattle.std.proofs.Common.{◌≡◌, ℕ, zero, suc, ◌+◌, ◌<◌, ◌≤◌, List, [], ◌∷◌, length, get_or, Result, Ok, Err, IfOk, IfErr, Less, Equal, Greater, refl, sym, subst, ap, ◌∙◌, arith}
-use Rattle.std.specs.List.{HoldsAt, insert, remove}
+use Rattle.std.proofs.Common.{◌≡◌, ℕ, zero, suc, ◌+◌, ◌<◌, ◌≤◌, List, [], ◌∷◌, ◌++◌, length, get_or, Result, Ok, Err, IfOk, IfErr, Less, Equal, Greater, refl, sym, subst, ap, ap₂, ◌∙◌, arith}
+use Rattle.std.specs.List.{HoldsAt, insert, remove, swap, swap_remove}
 use Rattle.std.specs.List.Sorted.{IsBinarySearchResult, IsPartitionPoint, IsSortedBy}
 use Rattle.std.specs.Ordering.{is_lt}
 use Rattle.std.proofs.lemmas.Cmp.{nat_list_cmp_total}
@@ -10,6 +10,7 @@ use Rattle.vector_clock.specs.declared.stamp.Stamp.{Stamp}
 use Rattle.crdt_laws.specs.Tower.{Meaning}
 use Rattle.map_crdt.specs.declared.keyed.KeyState.{KeyState}
 use Rattle.map_crdt.specs.Keyed.{AreRising, apply_at, byte_order, pair, put, state_at}
+use Rattle.map_crdt.proofs.Swaps.{length-short, swapped_back}
 use Rattle.map_crdt.specs.KeyedLaws.{at_here, at_later, equal_same, greater_less, less_greater, less_other, greater_other, put_equal, put_greater, put_less, same_equal}
 
 module _ {S : Type 0} where
@@ -89,11 +90,14 @@ module _ {S O : Type 0} (m : Meaning S O) where
         written = λ v. ap (λ l. e ∷ l) (ih.written v) ∙ sym (put_greater e es k v above);
       }
 
-  -- what is written back at the place of a key that is present
-  pub written_back : (es : List (KeyState S)) (k : List ℕ) (i : ℕ) (x : KeyState S) → IsStateAt es k i x.state → x.key ≡ k
-      → (rest : List (KeyState S)) → rest ≡ remove es i → (p : Stamp) (o : O) (v : S) → v ≡ m.apply x.state p o → insert rest i (pair x.key v) ≡ apply_at m es k p o
-  written_back es k i x there key rest is p o v applied =
-      ap (λ l. insert l i (pair x.key v)) is ∙ ap (λ j. insert (remove es i) i (pair j v)) key ∙ there.written v
+  -- what is written back at the place of a key that is present, which the last one had meanwhile
+  pub written_back : (es : List (KeyState S)) (k : List ℕ) (i : ℕ) (x : KeyState S) → IsStateAt es k i x.state → x.key ≡ k → i < length es
+      → (rest : List (KeyState S)) → rest ≡ swap_remove es i x → (p : Stamp) (o : O) (v : S) → v ≡ m.apply x.state p o
+      → (n : ℕ) → n ≡ length rest → swap (rest ++ pair x.key v ∷ []) i n ≡ apply_at m es k p o
+  written_back es k i x there key within rest is p o v applied n last =
+      ap₂ (λ (l : List (KeyState S)) (j : ℕ). swap (l ++ pair x.key v ∷ []) i j) is (last ∙ ap length is ∙ length-short es i x (pair x.key v) within)
+      ∙ swapped_back es i x (pair x.key v) within
+      ∙ ap (λ j. insert (remove es i) i (pair j v)) key ∙ there.written v
       ∙ ap (put es k) (applied ∙ ap (λ s. m.apply s p o) (sym there.state))
 
   -- what is written at the place of a key that is absent

@@ -107,9 +107,12 @@ impl<T: Tower> Tower for Keyed<T> {
         let List { mut items } = pairs;
         match place_of(items.as_slice(), &op.key) {
             Ok(at) => {
-                let KeyState { key, state } = items.remove(at);
+                // The last pair stands in for this one meanwhile, so that none behind it moves.
+                let KeyState { key, state } = items.swap_remove(at);
                 let state = self.part.apply(alloc, state, stamp, &op.op)?;
-                items.insert(at, KeyState { key, state })?;
+                let last = items.len();
+                items.push(KeyState { key, state })?;
+                items.swap(at, last);
             }
             Err(at) => {
                 let first = self.part.init(alloc)?;
