@@ -12,7 +12,7 @@ use Rattle.replica_cmd.specs.declared.stop.Stop.TheVariants as stop
 use Rattle.lab_store.specs.Store.{IsLonger, file_at}
 use Rattle.replica_cmd.specs.Check.{PutsFinding, PutsPart}
 use Rattle.replica_cmd.specs.Reading.{most_bytes, most_file_bytes}
-use Rattle.replica_cmd.specs.Run.{run_text, AreFairLines, ArePlayed, ChecksTable, Does, Ends, IsRun, PlaysScript, Puts, RefusesWords}
+use Rattle.replica_cmd.specs.Run.{run_text, AreFairLines, ArePlayed, ChecksTable, Does, Ends, IsRun, PlaysScript, Puts, PutsTexts, RefusesWords}
 use Rattle.replica_cmd.specs.Status.{status_of}
 use Rattle.replica_cmd.proofs.Looping.{nothing_put}
 
@@ -154,6 +154,9 @@ module _ (left before after : Option (List ℕ)) where
   abbrev Played : Bool → Type 0
   Played refused = (script : List ℕ) → left ≡ Some script → AreFairLines (lines_of script) → ArePlayed (lines_of script) before after refused
 
+  abbrev Each : Bool → Type 0
+  Each bad = (script : List ℕ) → left ≡ Some script → PutsTexts (length (lines_of script)) before after bad
+
   abbrev Part : Type 0
   Part = (script : List ℕ) → left ≡ Some script → AreFairLines (lines_of script) → AppendsPart before after (run_text (lines_of script))
 
@@ -163,15 +166,17 @@ module _ (left before after : Option (List ℕ)) where
   abbrev Long : Type 0
   Long = (script : List ℕ) → left ≡ Some script → most_bytes < length script
 
-  play_ended : (refused : Bool) → Played refused → Short → PlaysScript left before after (status_of (Ok refused))
-  play_ended false played short = record {
+  play_ended : (refused : Bool) → Played refused → Each refused → Short → PlaysScript left before after (status_of (Ok refused))
+  play_ended false played each short = record {
     played = λ script e fair h. played script e fair;
+    each = λ script e h. each script e;
     part = λ script e fair h. absurd (not_0_3_6 h);
     short = λ script e h. short script e;
     long = λ script e h. absurd (not_long_0 h);
   }
-  play_ended true played short = record {
+  play_ended true played each short = record {
     played = λ script e fair h. played script e fair;
+    each = λ script e h. each script e;
     part = λ script e fair h. absurd (not_2_3_6 h);
     short = λ script e h. short script e;
     long = λ script e h. absurd (not_long_2 h);
@@ -180,35 +185,40 @@ module _ (left before after : Option (List ℕ)) where
   play_without_memory : Part → PlaysScript left before after 3
   play_without_memory part = record {
     played = λ script e fair h. absurd (not_3_0_2 h);
+    each = λ script e h. absurd (not_3_0_2 h);
     part = λ script e fair h. part script e fair;
     short = λ script e h. absurd (not_run_3 h);
     long = λ script e h. absurd (not_long_3 h);
   }
 
-  pub play_ends : (r : Result Bool Stop) → IfOk r Played → (IsErrOf r stop.Sink ⊎ IsErrOf r stop.NoMemory → Part) → (IsOk r ⊎ IsErrOf r stop.Sink → Short)
+  pub play_ends : (r : Result Bool Stop) → IfOk r Played → IfOk r Each → (IsErrOf r stop.Sink ⊎ IsErrOf r stop.NoMemory → Part) → (IsOk r ⊎ IsErrOf r stop.Sink → Short)
       → (IsErrOf r stop.Long → Long) → PlaysScript left before after (status_of r)
-  play_ends (Ok refused) played part short long = play_ended refused played (short (inl refl))
-  play_ends (Err stop.NoMemory) played part short long = play_without_memory (part (inr refl))
-  play_ends (Err stop.Source) played part short long = record {
+  play_ends (Ok refused) played each part short long = play_ended refused played each (short (inl refl))
+  play_ends (Err stop.NoMemory) played each part short long = play_without_memory (part (inr refl))
+  play_ends (Err stop.Source) played each part short long = record {
     played = λ script e fair h. absurd (not_4_0_2 h);
+    each = λ script e h. absurd (not_4_0_2 h);
     part = λ script e fair h. absurd (not_4_3_6 h);
     short = λ script e h. absurd (not_run_4 h);
     long = λ script e h. absurd (not_long_4 h);
   }
-  play_ends (Err stop.Store) played part short long = record {
+  play_ends (Err stop.Store) played each part short long = record {
     played = λ script e fair h. absurd (not_4_0_2 h);
+    each = λ script e h. absurd (not_4_0_2 h);
     part = λ script e fair h. absurd (not_4_3_6 h);
     short = λ script e h. absurd (not_run_4 h);
     long = λ script e h. absurd (not_long_4 h);
   }
-  play_ends (Err stop.Sink) played part short long = record {
+  play_ends (Err stop.Sink) played each part short long = record {
     played = λ script e fair h. absurd (not_6_0_2 h);
+    each = λ script e h. absurd (not_6_0_2 h);
     part = λ script e fair h. part (inl refl) script e fair;
     short = λ script e h. short (inr refl) script e;
     long = λ script e h. absurd (not_long_6 h);
   }
-  play_ends (Err stop.Long) played part short long = record {
+  play_ends (Err stop.Long) played each part short long = record {
     played = λ script e fair h. absurd (not_7_0_2 h);
+    each = λ script e h. absurd (not_7_0_2 h);
     part = λ script e fair h. absurd (not_7_3_6 h);
     short = λ script e h. absurd (not_run_7 h);
     long = λ script e h. long refl script e;

@@ -2,7 +2,7 @@
 use Rattle.std.proofs.Common.{◌≡◌, inl, inr, ℕ, zero, suc, Bor, drop, map, add-one, ◌+◌, ◌≤◌, ◌<◌, Bool, true, false, List, [], ◌∷◌, ◌++◌, Option, None, Some, refl, ap, ap₂, sym, ◌∙◌, arith, subst, length, get_or, take, append_assoc, ◌^◌, take_all}
 use Rattle.std.proofs.lemmas.Bool.{cases_lt}
 use Rattle.std.proofs.lemmas.Grind.{flat_map-append}
-use Rattle.std.proofs.lemmas.List.{append-nil, take-append-le}
+use Rattle.std.proofs.lemmas.List.{append-nil, length-append, take-append-le}
 use Rattle.std.proofs.Math.Seq.{take-append_seam, take-append-add}
 use Rattle.vector_clock.specs.declared.stamp.Stamp.{Stamp}
 use Rattle.crdt_laws.specs.Tower.{IsStampOf, IsWithin}
@@ -17,7 +17,7 @@ use Rattle.lab_model.specs.Lab.{Lab, lab_run, lab_step, pair_members}
 use Rattle.lab_model.proofs.Runs as model
 use Rattle.crdt_laws.specs.Tower.{max_seq}
 use Rattle.replica_cmd.specs.Number.{number_meaning, number_op, NumberOp}
-use Rattle.replica_cmd.specs.Run.{is_bad, run_refused, run_text, AreFairLines, ArePlayed, IsEnded, Puts}
+use Rattle.replica_cmd.specs.Run.{is_bad, run_refused, run_text, AreFairLines, ArePlayed, IsEnded, PutsTexts}
 use Rattle.replica_cmd.specs.Steps.{outcome, Steps}
 
 -- ---- what is put
@@ -64,19 +64,24 @@ any_push p (t ∷ texts) text = ap (λ b. p t || b) (any_push p texts text) ∙ 
     or_assoc true b c = refl
     or_assoc false b c = refl
 
-pub no_texts : (told : Option (List ℕ)) → Puts told told false
-no_texts told = record { texts = []; put = nothing_put told; ended = λ k d l. absurd (omega arith); told = refl }
+pub no_texts : (told : Option (List ℕ)) → PutsTexts 0 told told false
+no_texts told = record { puts = record { texts = []; put = nothing_put told; ended = λ k d l. absurd (omega arith); told = refl }; many = refl }
 
-pub one_more : (start told after : Option (List ℕ)) (refused r : Bool) (text : List ℕ) → Puts start told refused → Appends told after text → IsEnded text → is_bad text ≡ r
-    → Puts start after (refused || r)
-one_more start told after refused r text puts put ended refusal = record {
-  texts = puts.texts ++ text ∷ [];
-  put =
-      subst (Appends start after) (sym (flat_map-append (λ (t : List ℕ). t) puts.texts (text ∷ []) ∙ ap (λ (l : List ℕ). flat_map (λ (t : List ℕ). t) puts.texts ++ l) (append-nil text)))
-      (then_put start told after (flat_map (λ (t : List ℕ). t) puts.texts) text puts.put put);
-  ended = All-append IsEnded puts.texts (text ∷ []) puts.ended (All-from_recursion IsEnded (text ∷ []) (ended, tt));
-  told = ap₂ (λ a b. a || b) puts.told (sym refusal) ∙ sym (any_push is_bad puts.texts text);
-}
+pub one_more : (count : ℕ) (start told after : Option (List ℕ)) (refused r : Bool) (text : List ℕ) → PutsTexts count start told refused → Appends told after text → IsEnded text → is_bad text ≡ r
+    → PutsTexts (count + 1) start after (refused || r)
+one_more count start told after refused r text old put ended refusal =
+    let before = old.puts.texts in
+    record {
+      puts = record {
+        texts = before ++ text ∷ [];
+        put =
+            subst (Appends start after) (sym (flat_map-append (λ (t : List ℕ). t) before (text ∷ []) ∙ ap (λ (l : List ℕ). flat_map (λ (t : List ℕ). t) before ++ l) (append-nil text)))
+            (then_put start told after (flat_map (λ (t : List ℕ). t) before) text old.puts.put put);
+        ended = All-append IsEnded before (text ∷ []) old.puts.ended (All-from_recursion IsEnded (text ∷ []) (ended, tt));
+        told = ap₂ (λ a b. a || b) old.puts.told (sym refusal) ∙ sym (any_push is_bad before text);
+      };
+      many = length-append before (text ∷ []) ∙ ap (λ n. n + 1) old.many;
+    }
 
 -- ---- the runs
 

@@ -39,6 +39,11 @@ pub record Puts (before after : Option (List ℕ)) (bad : Bool) : Type 0 where
   pub ended : All IsEnded texts
   pub told : bad ≡ list_any is_bad texts
 
+-- and so many were put
+pub record PutsTexts (count : ℕ) (before after : Option (List ℕ)) (bad : Bool) : Type 0 where
+  pub puts : Puts before after bad
+  pub many : length puts.texts ≡ count
+
 -- the text of lines that are run from nothing, and whether one of them is refused
 abbrev pub run_text : List (List ℕ) → List ℕ
 run_text lines = (lab_run number_meaning number_op [] lines).text
@@ -68,6 +73,8 @@ pub record PlaysScript (left before after : Option (List ℕ)) (status : ℕ) : 
       → ArePlayed (lines_of script) before after (status == 2)
   pub part : (script : List ℕ) → left ≡ Some script → AreFairLines (lines_of script) → (status ≡ 3) ⊎ (status ≡ 6)
       → AppendsPart before after (run_text (lines_of script))
+  -- fair or not, each line of a whole script puts one text
+  pub each : (script : List ℕ) → left ≡ Some script → Ends status → PutsTexts (length (lines_of script)) before after (status == 2)
   -- a script that is run is short, and one that is too long is not
   pub short : (script : List ℕ) → left ≡ Some script → Ends status ⊎ (status ≡ 6) → length script ≤ most_bytes
   pub long : (script : List ℕ) → left ≡ Some script → status ≡ 7 → most_bytes < length script

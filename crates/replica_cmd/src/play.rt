@@ -6,7 +6,7 @@ ghost use Rattle.lab_model.specs.Lab.{lab_step};
 ghost use Rattle.lab_model.specs.Line.{lines_of};
 ghost use Rattle.replica_cmd.specs.Number.{number_meaning, number_op};
 ghost use Rattle.replica_cmd.specs.Reading.{most_bytes};
-ghost use Rattle.replica_cmd.specs.Run.{run_text, AreFairLines, ArePlayed, Puts};
+ghost use Rattle.replica_cmd.specs.Run.{run_text, AreFairLines, ArePlayed, Puts, PutsTexts};
 ghost use Rattle.replica_cmd.specs.Steps.{StepsAndPuts};
 ghost use Rattle.replica_cmd.specs.Things.{contents, most_made, IsKeptLab, IsLabUpTo};
 
@@ -37,7 +37,7 @@ fn run_line<W: Sink>(alloc: Global, lab: &mut Lab, line: &[u8], sink: &mut W) ->
 fn run_lines<W: Sink>(alloc: Global, lines: &[&[u8]], sink: &mut W) -> Result<bool, Stop>
     requires { length lines.now ≤ most_made }
     ensures played { IfOk result (λ refused. AreFairLines (map (λ line. line.now) lines.now) → ArePlayed (map (λ line. line.now) lines.now) (W.told sink.old) (W.told sink.new) refused) }
-    ensures puts { IfOk result (λ refused. Puts (W.told sink.old) (W.told sink.new) refused) }
+    ensures each { IfOk result (λ refused. PutsTexts (length lines.now) (W.told sink.old) (W.told sink.new) refused) }
     ensures part { OnErr result (AreFairLines (map (λ line. line.now) lines.now) → AppendsPart (W.told sink.old) (W.told sink.new) (run_text (map (λ line. line.now) lines.now))) }
     ensures fault { IsErrOf result Stop.Sink → Rose (W.faults sink.old) (W.faults sink.new) }
     ensures no_others { OnErr result ((result ≡ Err Stop.Sink) ⊎ (result ≡ Err Stop.NoMemory)) }
@@ -59,6 +59,7 @@ pub(crate) fn play<S: Source, W: Sink>(
 ) -> Result<bool, Stop>
     ensures played { IfOk result (λ refused. (script : List ℕ) → S.left source.old ≡ Some script → AreFairLines (lines_of script) → ArePlayed (lines_of script) (W.told sink.old) (W.told sink.new) refused) }
     ensures puts { IfOk result (λ refused. Puts (W.told sink.old) (W.told sink.new) refused) }
+    ensures each { IfOk result (λ refused. (script : List ℕ) → S.left source.old ≡ Some script → PutsTexts (length (lines_of script)) (W.told sink.old) (W.told sink.new) refused) }
     ensures part { IsErrOf result Stop.Sink ⊎ IsErrOf result Stop.NoMemory → (script : List ℕ) → S.left source.old ≡ Some script → AreFairLines (lines_of script) → AppendsPart (W.told sink.old) (W.told sink.new) (run_text (lines_of script)) }
     ensures short { IsOk result ⊎ IsErrOf result Stop.Sink → (script : List ℕ) → S.left source.old ≡ Some script → length script ≤ most_bytes }
     ensures long { IsErrOf result Stop.Long → (script : List ℕ) → S.left source.old ≡ Some script → most_bytes < length script }

@@ -31,7 +31,7 @@ returns-in-Play-clause-runs g c =
     let e = c.play.ensures in
     let same : (IsErrOf r stop.Source ⊎ (IsErrOf r stop.Store ⊎ IsErrOf r stop.Long) → after ≡ before) =
     λ h. elim h [ inl source ↦ e.nothing (inl source) | inr k ↦ elim k [ inl store ↦ absurd (e.not_the_store store) | inr long ↦ e.nothing (inr long) ] ] in
-    run_of words left files before after (Some Play) command r (play_ends left before after r e.played e.part e.short e.long) same e.puts
+    run_of words left files before after (Some Play) command r (play_ends left before after r e.played e.each e.part e.short e.long) same e.puts
 
 pub returns-in-Check-clause-runs : goal.returns-in-Check-clause-runs
 returns-in-Check-clause-runs g c =

@@ -8,4 +8,5 @@ returns-clause-puts g c =
     let told = g.W.Sink.told c.args.sink.now in
     let bad = c.in_ok-reply.reply.refused in
     let said = subst (λ t. IsSaid t bad) (sym c.as_str.ensures.value) c.in_ok-reply.ensures.said in
-    one_more told told (g.W.Sink.told c.put_text.new.sink) false bad c.as_str.result.now (no_texts told) c.in_ok-put_text.ensures.put said.ended said.told
+    let put = one_more 0 told told (g.W.Sink.told c.put_text.new.sink) false bad c.as_str.result.now (no_texts told) c.in_ok-put_text.ensures.put said.ended said.told in
+    put.puts

@@ -1,4 +1,5 @@
-use Rattle.std.proofs.Common.{◌∙◌, false, ◌+◌, drop, map, sym, subst, refl, inl, inr, arith}
+use Rattle.std.proofs.Common.{◌≡◌, ◌∙◌, false, ◌+◌, drop, length, map, sym, subst, refl, inl, inr, arith}
+use Rattle.replica_cmd.specs.Run.{PutsTexts}
 use Rattle.replica_cmd.specs.Things.{contents, most_made, IsKeptLab, IsLabUpTo}
 use Rattle.replica_cmd.proofs.KeptLab.{lab_up_to_more}
 use Rattle.replica_cmd.proofs.Looping.{Follows, follows_start, follows_next, follows_part, follows_none, next_line, no_texts, on_err, one_more}
@@ -46,7 +47,7 @@ loop-line-preserved g c =
     record {
       kept = s.steps.kept;
       up_to = s.steps.up_to i c.loop-line.invariant.up_to;
-      puts = one_more start told after c.loop-line.refused c.in_ok-is_refused.is_refused s.text c.loop-line.invariant.puts s.put s.steps.ended s.steps.bad;
+      puts = one_more i start told after c.loop-line.refused c.in_ok-is_refused.is_refused s.text c.loop-line.invariant.puts s.put s.steps.ended s.steps.bad;
       follows = λ fair.
           follows_next lines _ (drop (i + 1) lines) i (contents c.loop-line.lab) (contents c.run_line.new.lab) start told after c.loop-line.refused c.in_ok-is_refused.is_refused s.text
           (omega arith)
@@ -54,3 +55,8 @@ loop-line-preserved g c =
           s.steps s.put;
       calm = c.in_ok-is_refused.ensures.calm ∙ c.loop-line.invariant.calm;
     }
+
+pub returns-clause-each : goal.returns-clause-each
+returns-clause-each g c =
+    let all : c.loop-line.line-index ≡ length c.args.lines.now = omega (arith, c.loop-line-test.false, c.loop-line.auto.line-index-end) in
+    subst (λ count. PutsTexts count (g.W.Sink.told c.args.sink.now) (g.W.Sink.told c.loop-line.sink) c.loop-line.refused) all c.loop-line.invariant.puts
