@@ -23,7 +23,7 @@ SHAPES = {"at the end": "types_many_at_the_end", "at the front": "types_many_at_
 NOTHING = "has_at_most_32_steps"
 LENGTHS = (5_000, 50_000)
 TIMES = LENGTHS[1] / LENGTHS[0]
-RUNS = 15
+RUNS = 25
 
 
 def built(length, folder):
