@@ -1,10 +1,10 @@
 #!/usr/bin/env python3
-"""Times inserts into a text at its end, at its front and at random places, and prints what one insert costs more in a text of
-ten times the length: in seconds, and in instructions that the processor carries out.
+"""Times inserts into a text at its end, at its front and at random places, and prints how many times as much one insert costs in a
+text of ten times the length: in seconds, and in instructions that the processor carries out.
 
 Seconds tell the size of the machine's caches too: 5,000 characters lie in a nearer cache than 50,000, so that moving ten times
-as many bytes takes more than ten times as long. Instructions are the work itself, and the same in each run. The status is 1
-where one insert costs more than ten times as many.
+as many bytes may take more than ten times as long. Instructions are the same in each run. The status is 1 where one insert takes
+more than ten times as many of them; seconds are printed, and decide nothing.
 
 The inserts are those of tests of `list_crdt`. They are proved and built in a copy of the repository, once for each length,
 which takes some minutes. What a test of no inserts takes is taken away. Instructions are counted by valgrind.
