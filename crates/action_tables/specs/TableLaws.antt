@@ -46,7 +46,7 @@ module _ (t : ActionTable) (table : IsTable t) (keeps : KeepsLaws t) where
     level-act = λ y x h k. (keeps.upward y x h k).level;
     act_below = λ y x h k below. (keeps.upward y x h k).below below;
     well_formed-act = λ y x h k. act_low t table y x h k;
-    valid-act = λ p y x _ h k. record { within = k.within; op = act_low t table y x h k.op };
+    valid-act = λ p y x _ h k. record { within = k.within; op = act_low t table y x h.issued.valid.op k.op };
     commute = λ n s p q x y w h k same. keeps.commute x y s h.valid.op k.valid.op w.good same;
     exchange = λ n s p q x y w h k below. keeps.exchange y x s k.valid.op h.valid.op w.good below;
     act-act = λ y v x h j k same. act_alike y v x h j k same;

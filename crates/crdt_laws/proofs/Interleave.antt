@@ -9,10 +9,14 @@ use Rattle.vector_clock.specs.declared.stamp.Stamp.{Stamp}
 use Rattle.vector_clock.specs.Stamp.{IsStamp, is_below, is_less, key_of, same_id}
 use Rattle.vector_clock.proofs.Keys.{key_either, key_level, key_trans}
 use Rattle.crdt_laws.specs.declared.small.Entry.{Entry}
-use Rattle.crdt_laws.specs.Sets.{AreApart, IsHonest, IsRising, together}
+use Rattle.crdt_laws.specs.Sets.{AreApart, IsHonest, IsRising, canonical, together}
 use Rattle.crdt_laws.specs.Interleaved.{interleaved}
 use Rattle.crdt_laws.proofs.Filters.{all_weaker}
-use Rattle.crdt_laws.proofs.Members.{Contains-front, Contains-more, at_member, each, rising_same}
+use Rattle.vector_clock.proofs.Keys.{same_id_sym}
+use Rattle.std.proofs.lemmas.Bool.{both_ways}
+use Rattle.std.proofs.lemmas.List.Elements.{Contains-append_cases}
+use Rattle.crdt_laws.proofs.Place.{rising-canonical}
+use Rattle.crdt_laws.proofs.Members.{Contains-canonical, Contains-cases, Contains-front, Contains-more, at_member, each, rising_same}
 use Rattle.crdt_laws.proofs.Both.{honest_part, rising_apart, together_elements, together_rises}
 
 pub interleaved-none : {Op : Type 0} (xs : List (Entry Op)) → interleaved xs [] ≡ xs
@@ -99,6 +103,36 @@ interleaved_together xs ys r s h =
     rising_same (interleaved xs ys) (together xs ys) (rising-interleaved xs ys r s) (together_rises xs ys left right) (λ e. (
       λ c. (together_elements xs ys h e).1 (interleaved_from_both xs ys e c),
       λ c. elim ((together_elements xs ys h e).0 c) [
+        | inl i ↦ at_member (Contains (interleaved xs ys)) xs e all.0 i
+        | inr i ↦ at_member (Contains (interleaved xs ys)) ys e all.1 i
+      ],
+    ))
+
+-- where no name stands twice, two of one name are one
+pub apart_one : {Op : Type 0} (l : List (Entry Op)) (a b : Entry Op) → AreApart l → Contains l a → Contains l b → same_id a.stamp b.stamp ≡ true → a ≡ b
+apart_one [] a b h c d q = let l : c.0 < 0 = c.1 in absurd (omega arith)
+apart_one {Op} (x ∷ l) a b h c d q =
+    elim (Contains-cases x l a c) [
+      | inl i ↦ elim (Contains-cases x l b d) [
+        | inl j ↦ sym i ∙ j
+        | inr j ↦ absurd (both_ways (same_id x.stamp b.stamp) (at_member (λ (e : Entry Op). same_id x.stamp e.stamp ≡ false) l b h.0 j) (subst (λ (z : Entry Op). same_id z.stamp b.stamp ≡ true) (sym i) q))
+      ]
+      | inr i ↦ elim (Contains-cases x l b d) [
+        | inl j ↦ absurd (both_ways (same_id x.stamp a.stamp) (at_member (λ (e : Entry Op). same_id x.stamp e.stamp ≡ false) l a h.0 i) (subst (λ (z : Entry Op). same_id z.stamp a.stamp ≡ true) (sym j) (same_id_sym a.stamp b.stamp q)))
+        | inr j ↦ apart_one l a b h.1 i j q
+      ]
+    ]
+
+-- where no name stands twice, whoever made the operations, the interleaved list is the canonical list of both
+pub interleaved_canonical : {Op : Type 0} (xs ys : List (Entry Op)) → IsRising xs → IsRising ys → AreApart (xs ++ ys) → interleaved xs ys ≡ canonical (xs ++ ys)
+interleaved_canonical xs ys r s h =
+    let all = within xs ys (λ a b i j q. apart_one (xs ++ ys) a b h (Contains-append_left xs ys a i) (Contains-append_right xs ys b j) q) in
+    rising_same (interleaved xs ys) (canonical (xs ++ ys)) (rising-interleaved xs ys r s) (rising-canonical (xs ++ ys) h) (λ e. (
+      λ c. (Contains-canonical (xs ++ ys) e).0 (elim (interleaved_from_both xs ys e c) [
+        | inl i ↦ Contains-append_left xs ys e i
+        | inr i ↦ Contains-append_right xs ys e i
+      ]),
+      λ c. elim (Contains-append_cases xs ys e ((Contains-canonical (xs ++ ys) e).1 c)) [
         | inl i ↦ at_member (Contains (interleaved xs ys)) xs e all.0 i
         | inr i ↦ at_member (Contains (interleaved xs ys)) ys e all.1 i
       ],

@@ -24,6 +24,11 @@ pub record IsActing {State Low Op : Type 0} (a : Action State Low Op) (n : ℕ) 
   pub stamp : IsStampOf n p
   pub valid : a.valid p y
 
+-- y was issued at some stamp, in a document with n members
+pub record WasActing {State Low Op : Type 0} (a : Action State Low Op) (n : ℕ) (y : Op) : Type 0 where
+  pub at : Stamp
+  pub issued : IsActing a n at y
+
 -- What an actor must keep over a lawful tower, so that its operations may stand as one more level above it. No law asks
 -- that the actor's operations act on each other: they are of one level.
 pub record IsLawfulAction {State Low Op : Type 0} (m : Meaning State Low) (a : Action State Low Op) : Type 0 where
@@ -35,8 +40,9 @@ pub record IsLawfulAction {State Low Op : Type 0} (m : Meaning State Low) (a : A
   pub level-act : (y : Op) (x : Low) → a.well_formed y → m.well_formed x → m.level (a.act y x) ≡ m.level x
   -- An operation that is acted on may still stand at some stamp. Without it nothing further could act on it.
   pub well_formed-act : (y : Op) (x : Low) → a.well_formed y → m.well_formed x → m.well_formed (a.act y x)
-  -- And it may stand at the stamp at which it stood. Without it the form in which it is present could not be applied.
-  pub valid-act : (p : Stamp) (y : Op) (x : Low) → IsStamp p → a.well_formed y → m.valid p x → m.valid p (a.act y x)
+  -- And it may stand at the stamp at which it stood. Without it the form in which it is present could not be applied. The
+  -- operation that acts is one of a document with as many members.
+  pub valid-act : (p : Stamp) (y : Op) (x : Low) → IsStamp p → WasActing a p.clock.n y → m.valid p x → m.valid p (a.act y x)
   -- Two concurrent operations of the actor may be applied in either order. Without it replicas that heard them in different
   -- orders differ.
   pub commute : (n : ℕ) (s : State) (p q : Stamp) (x y : Op) → MaySwap m n s p q → IsActing a n p x → IsActing a n q y

@@ -79,6 +79,7 @@ pub fn together<Op: Drop>(alloc: Global, xs: Ops<Op>, ys: Ops<Op>) -> Result<Ops
     requires right_rises { IsRising ys }
     requires left_stamps { All (λ e. IsStamp e.stamp) xs }
     requires right_stamps { All (λ e. IsStamp e.stamp) ys }
+    ensures interleaved { IfOk result (λ r. r ≡ interleaved xs ys) }
     ensures joined { IfOk result (λ r. IsHonest (xs ++ ys) → r ≡ together xs ys) }
     ensures rises { IfOk result (λ r. IsRising r) }
     ensures from { IfOk result (λ r. (e : Entry Op) → Contains r e → Contains xs e ⊎ Contains ys e) }

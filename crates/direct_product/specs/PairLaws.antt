@@ -7,7 +7,7 @@ use Rattle.vector_clock.specs.declared.stamp.Stamp.{Stamp}
 use Rattle.vector_clock.specs.declared.clock.Id.{Id}
 use Rattle.vector_clock.specs.Clock.{IsAtMost, covers}
 use Rattle.vector_clock.specs.Stamp.{IsAfter, IsStamp, id_of}
-use Rattle.crdt_laws.specs.Tower.{Meaning, IsLawful, IsIssued, IsWithin, Lacks, Agrees, MaySwap}
+use Rattle.crdt_laws.specs.Tower.{Meaning, IsLawful, IsIssued, IsWithin, Lacks, Agrees, MaySwap, WasIssued}
 use Rattle.direct_product.specs.declared.pair.Both.{Both}
 use Rattle.direct_product.specs.declared.pair.PairOp.{PairOp}
 use Rattle.direct_product.specs.declared.pair.PairOp.TheVariants.{Left, Right}
@@ -48,6 +48,12 @@ module _ {S T L R : Type 0} (m : Meaning S L) (w : Meaning T R) where
   right_issued : (n : ℕ) (p : Stamp) (x : R) → IsIssued (pair_meaning m w) n p (Right x) → IsIssued w n p x
   right_issued n p x h = record { stamp = h.stamp; valid = h.valid }
 
+  left_was : (n : ℕ) (x : L) → WasIssued (pair_meaning m w) n (Left x) → WasIssued m n x
+  left_was n x h = record { at = h.at; issued = left_issued n h.at x h.issued }
+
+  right_was : (n : ℕ) (x : R) → WasIssued (pair_meaning m w) n (Right x) → WasIssued w n x
+  right_was n x h = record { at = h.at; issued = right_issued n h.at x h.issued }
+
 module _ {S T L R : Type 0} (m : Meaning S L) (left : IsLawful m) (w : Meaning T R) (right : IsLawful w) where
   valid_within : (p : Stamp) (x : PairOp L R) → pair_valid m w p x → IsWithin p
   valid_within p (Left x) h = left.valid_within p x h
@@ -83,9 +89,9 @@ module _ {S T L R : Type 0} (m : Meaning S L) (left : IsLawful m) (w : Meaning T
   well_formed-act (Left y) (Right x) h k = k
   well_formed-act (Right y) (Left x) h k = k
 
-  valid-act : (p : Stamp) (y x : PairOp L R) → IsStamp p → pair_well_formed m w y → pair_valid m w p x → pair_valid m w p (pair_act m w y x)
-  valid-act p (Left y) (Left x) stamp h k = left.valid-act p y x stamp h k
-  valid-act p (Right y) (Right x) stamp h k = right.valid-act p y x stamp h k
+  valid-act : (p : Stamp) (y x : PairOp L R) → IsStamp p → WasIssued (pair_meaning m w) p.clock.n y → pair_valid m w p x → pair_valid m w p (pair_act m w y x)
+  valid-act p (Left y) (Left x) stamp h k = left.valid-act p y x stamp (left_was m w p.clock.n y h) k
+  valid-act p (Right y) (Right x) stamp h k = right.valid-act p y x stamp (right_was m w p.clock.n y h) k
   valid-act p (Left y) (Right x) stamp h k = k
   valid-act p (Right y) (Left x) stamp h k = k
 

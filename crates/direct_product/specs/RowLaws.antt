@@ -8,7 +8,7 @@ use Rattle.vector_clock.specs.declared.clock.Clock.{Clock}
 use Rattle.vector_clock.specs.declared.stamp.Stamp.{Stamp}
 use Rattle.vector_clock.specs.Clock.{IsAtMost, covers}
 use Rattle.vector_clock.specs.Stamp.{IsAfter, IsStamp, id_of, are_concurrent}
-use Rattle.crdt_laws.specs.Tower.{Meaning, IsLawful, IsIssued, IsWithin, IsStampOf, Lacks, MaySwap}
+use Rattle.crdt_laws.specs.Tower.{Meaning, IsLawful, IsIssued, IsWithin, IsStampOf, Lacks, MaySwap, WasIssued}
 use Rattle.direct_product.specs.declared.row.RowOp.{RowOp}
 use Rattle.direct_product.specs.Row.{MayApply, act_at, apply_at, at_part, formed_at, good_all, good_at_all, holds_any, init_all, level_at, plain_all, row_act, row_meaning, settle_all, show_all, top_of, valid_at}
 
@@ -81,10 +81,10 @@ module _ {T S O : Type 0} (of : T → Meaning S O) (law : (t : T) → IsLawful (
   formed_act_at (t ∷ ts) zero y x h k = (law t).well_formed-act y x h k
   formed_act_at (t ∷ ts) (suc i) y x h k = formed_act_at ts i y x h k
 
-  valid_act_at : (ts : List T) (i : ℕ) (p : Stamp) (y x : O) → IsStamp p → formed_at of ts i y → valid_at of ts i p x → valid_at of ts i p (act_at of ts i y x)
-  valid_act_at [] i p y x stamp h k = k
-  valid_act_at (t ∷ ts) zero p y x stamp h k = (law t).valid-act p y x stamp h k
-  valid_act_at (t ∷ ts) (suc i) p y x stamp h k = valid_act_at ts i p y x stamp h k
+  valid_act_at : (ts : List T) (i : ℕ) (p q : Stamp) (y x : O) → IsStamp p → IsStampOf p.clock.n q → valid_at of ts i q y → valid_at of ts i p x → valid_at of ts i p (act_at of ts i y x)
+  valid_act_at [] i p q y x stamp other h k = k
+  valid_act_at (t ∷ ts) zero p q y x stamp other h k = (law t).valid-act p y x stamp (record { at = q; issued = record { stamp = other; valid = h } }) k
+  valid_act_at (t ∷ ts) (suc i) p q y x stamp other h k = valid_act_at ts i p q y x stamp other h k
 
   commute_at : (n : ℕ) (ts : List T) (ss : List S) (i : ℕ) (p q : Stamp) (x y : O) → IsTrue (are_concurrent p q) → MayApply of n ts ss p → MayApply of n ts ss q
       → valid_at of ts i p x → valid_at of ts i q y → level_at of ts i x ≡ level_at of ts i y
@@ -262,9 +262,9 @@ module _ {T S O : Type 0} (of : T → Meaning S O) (law : (t : T) → IsLawful (
     | inr differ ↦ rw (row_act-other of ts y x differ) k
   ]
 
-  valid-act : (p : Stamp) (y x : RowOp O) → IsStamp p → formed_at of ts y.part y.op → valid_at of ts x.part p x.op → valid_at of ts (row_act of ts y x).part p (row_act of ts y x).op
+  valid-act : (p : Stamp) (y x : RowOp O) → IsStamp p → WasIssued (row_meaning of ts) p.clock.n y → valid_at of ts x.part p x.op → valid_at of ts (row_act of ts y x).part p (row_act of ts y x).op
   valid-act p y x stamp h k = elim (cases_eq y.part x.part) [
-    | inl same ↦ rw (row_act-same of ts y x same) (valid_act_at of law ts x.part p y.op x.op stamp (rw same at h) k)
+    | inl same ↦ rw (row_act-same of ts y x same) (valid_act_at of law ts x.part p h.at y.op x.op stamp h.issued.stamp (rw same at h.issued.valid) k)
     | inr differ ↦ rw (row_act-other of ts y x differ) k
   ]
 

@@ -12,15 +12,17 @@ use Rattle.crdt_laws.specs.Present.{document}
 use Rattle.crdt_laws.specs.Sets.{IsClosed}
 use Rattle.crdt_laws.specs.Tower.{IsIssued, IsStampOf, IsWithin, Meaning, max_seq}
 use Rattle.crdt_laws.proofs.Members.{Contains-cases}
-use Rattle.replica_model.specs.Family.{IsHonestFamily, MayMerge, Thing, replica, batch, replicas, operations}
+use Rattle.replica_model.specs.Family.{MayMerge, Thing, replica, batch, replicas, operations}
 use Rattle.replica_model.specs.Replica.{Replica, Batch, edited, exported, members, merged, new_replica, next_stamp, version}
 use Rattle.replica_model.proofs.Edits.{doc-edited, next_stamp_is}
-use Rattle.replica_model.proofs.Families.{doc-new_replica, family_empty, family_edited, family_exported_last, family_exported_over, family_joined, family_merged, in_family_edited, in_family_exported_last, in_family_exported_over, in_family_joined, in_family_merged, may_edit, may_merge, replica_inside, sound_at}
+use Rattle.replica_model.proofs.Families.{doc-new_replica, in_family_edited, in_family_exported_last, in_family_exported_over, in_family_joined, in_family_merged, may_edit, may_merge, replica_inside, sound_at}
 use Rattle.replica_model.proofs.Merged.{doc-merged}
 use Rattle.replica_model.proofs.Names.{all_from_contains}
 use Rattle.replica_model.proofs.Things.{in_split, split_has, split_it}
 use Rattle.replica_model.proofs.Told.{delivered_alike}
 use Rattle.replica_model.proofs.Versions.{count-with_other, count-with_own, length-version, version_below}
+use Rattle.forgetting_model.specs.Truth.{IsTrueFamily}
+use Rattle.forgetting_model.proofs.Steps.{true_edited, true_empty, true_exported_last, true_exported_over, true_joined, true_merged}
 use Rattle.lab_model.specs.declared.command.Command.{Command}
 use Rattle.lab_model.specs.declared.command.Command.TheVariants.{New, Edit, Show, Export, Merge, Play, Check}
 use Rattle.lab_model.specs.declared.command.Verb.{Verb}
@@ -70,7 +72,7 @@ module _ {State Op : Type 0} (m : Meaning State Op) (k : ℕ) (lab : Lab Op) whe
   -- a thing is put under a name
   put : (name : List ℕ) (s : Thing Op) (after : List (Thing Op)) → things (with_thing lab name s) ≡ after
       → ((t : Thing Op) → Contains after t → (s ≡ t) ⊎ Contains (things lab) t)
-      → IsHonestLab m lab → doc_of s ≡ pair_text → IsHonestFamily m pair_members after → Counts k after → Keeps m k (with_thing lab name s)
+      → IsHonestLab m lab → doc_of s ≡ pair_text → IsTrueFamily m pair_members after → Counts k after → Keeps m k (with_thing lab name s)
   put name s after is among honest doc family counts = record {
     honest = record {
       names = distinct_with lab name s honest.names;
@@ -79,7 +81,7 @@ module _ {State Op : Type 0} (m : Meaning State Op) (k : ℕ) (lab : Lab Op) whe
             | inl q ↦ ap doc_of (sym q) ∙ doc
             | inr i ↦ All-contains (λ (t : Thing Op). doc_of t ≡ pair_text) (things lab) t honest.document i
           ]);
-      family = subst (IsHonestFamily m pair_members) (sym is) family;
+      family = subst (IsTrueFamily m pair_members) (sym is) family;
     };
     counts = subst (Counts k) (sym is) counts;
   }
@@ -128,8 +130,8 @@ module _ {State Op : Type 0} (m : Meaning State Op) (made : Verb → ℕ → Op)
       let none = fair (record { lab = _; text = _ }) refl in
       let family = old.honest.family in
       put m (k + 1) lab file s (things lab ++ s ∷ []) (stands_last lab file s at) (among_last m (k + 1) lab s) old.honest
-      (doc-new_replica Op pair_text member pair_members) (family_joined m pair_members (things lab) pair_text member family h none)
-      (more (things lab ++ s ∷ []) (in_family_joined m pair_members (things lab) pair_text member family h none))
+      (doc-new_replica Op pair_text member pair_members) (true_joined m pair_members (things lab) pair_text member family (omega arith) h none)
+      (more (things lab ++ s ∷ []) (in_family_joined m pair_members (things lab) pair_text member family.honest h none))
   new_goes file member (Some (replica r)) at h fair = stays
   new_goes file member (Some (batch b)) at h fair = stays
 
@@ -140,25 +142,25 @@ module _ {State Op : Type 0} (m : Meaning State Op) (made : Verb → ℕ → Op)
       let xs = place.front in
       let ys = place.back in
       let all = xs ++ replica r ∷ ys in
-      let family : IsHonestFamily m pair_members all = subst (IsHonestFamily m pair_members) place.now old.honest.family in
+      let family : IsTrueFamily m pair_members all = subst (IsTrueFamily m pair_members) place.now old.honest.family in
       let counts : Counts k all = subst (Counts k) place.now old.counts in
       let here = split_it xs ys (replica r) in
       let few : pair_members ≤ 16 = omega arith in
-      let may = may_edit m pair_members all family few r here in
+      let may = may_edit m pair_members all family.honest few r here in
       let within : r.me < 16 = (let l = may.sound.member in omega arith) in
-      let next = next_below r k within (λ e c. counts e (replica_inside m pair_members all family r here e (Contains-append_left r.delivered r.waiting e c))) in
+      let next = next_below r k within (λ e c. counts e (replica_inside m pair_members all family.honest r here e (Contains-append_left r.delivered r.waiting e c))) in
       let limit : IsWithin (next_stamp r) = record { each = λ i. let h = next i in omega (arith, room) } in
       let stamp = next_stamp_is (operations all) pair_members r may limit in
       let issued : IsIssued m pair_members (next_stamp r) op = record { stamp = stamp; valid = fits (next_stamp r) stamp limit } in
       let counts' : Counts (k + 1) (xs ++ replica (edited r op) ∷ ys) = λ e c i.
-      elim (Contains-cases (entry (next_stamp r) op) (operations all) e (in_family_edited m pair_members xs ys r family few op e c)) [
+      elim (Contains-cases (entry (next_stamp r) op) (operations all) e (in_family_edited m pair_members xs ys r family.honest few op e c)) [
         | inl q ↦ subst (λ (z : Entry Op). count z.stamp.clock i ≤ k + 1) q (next i)
         | inr j ↦ (let h = counts e j i in omega (arith, h))
       ] in
       put m (k + 1) lab file (replica (edited r op)) (xs ++ replica (edited r op) ∷ ys) (place.then' (replica (edited r op)))
       (among_place m (k + 1) lab file (replica r) (replica (edited r op)) place) old.honest
       (doc-edited r op ∙ doc_at m k lab old.honest file (replica r) at)
-      (family_edited m pair_members xs ys r family few op issued) counts'
+      (true_edited m pair_members xs ys r family op limit issued.valid) counts'
 
   edit_goes : (file : List ℕ) (op : Op) (found : Option (Thing Op)) → thing_at lab file ≡ found
       → ((p : Stamp) → IsStampOf pair_members p → IsWithin p → m.valid p op) → Goes (edit_under m made lab file op found)
@@ -177,8 +179,8 @@ module _ {State Op : Type 0} (m : Meaning State Op) (made : Verb → ℕ → Op)
       let s : Thing Op = batch (exported r None) in
       let family = old.honest.family in
       put m (k + 1) lab name s (things lab ++ s ∷ []) (stands_last lab name s at) (among_last m (k + 1) lab s) old.honest
-      (doc-exported r None ∙ doc) (family_exported_last m pair_members (things lab) r None family here)
-      (more (things lab ++ s ∷ []) (in_family_exported_last m pair_members (things lab) r None family here))
+      (doc-exported r None ∙ doc) (true_exported_last m pair_members (things lab) r None family here)
+      (more (things lab ++ s ∷ []) (in_family_exported_last m pair_members (things lab) r None family.honest here))
 
   export_over : (name : List ℕ) (r : Replica Op) (b : Batch Op) → Contains (things lab) (replica r) → doc_of (replica r) ≡ pair_text → thing_at lab name ≡ Some (batch b)
       → Keeps m (k + 1) (with_thing lab name (batch (exported r None)))
@@ -188,12 +190,12 @@ module _ {State Op : Type 0} (m : Meaning State Op) (made : Verb → ℕ → Op)
       let xs = place.front in
       let ys = place.back in
       let all = xs ++ batch b ∷ ys in
-      let family : IsHonestFamily m pair_members all = subst (IsHonestFamily m pair_members) place.now old.honest.family in
+      let family : IsTrueFamily m pair_members all = subst (IsTrueFamily m pair_members) place.now old.honest.family in
       let here : Contains all (replica r) = subst (λ (l : List (Thing Op)). Contains l (replica r)) place.now there in
       let counts : Counts k all = subst (Counts k) place.now old.counts in
       put m (k + 1) lab name s (xs ++ s ∷ ys) (place.then' s) (among_place m (k + 1) lab name (batch b) s place) old.honest
-      (doc-exported r None ∙ doc) (family_exported_over m pair_members xs ys r None b family here)
-      (λ e c i. let h = counts e (in_family_exported_over m pair_members xs ys r None b family here e c) i in omega (arith, h))
+      (doc-exported r None ∙ doc) (true_exported_over m pair_members xs ys r b None family here)
+      (λ e c i. let h = counts e (in_family_exported_over m pair_members xs ys r None b family.honest here e c) i in omega (arith, h))
 
   export_goes : (file name : List ℕ) (found there : Option (Thing Op)) → thing_at lab file ≡ found → thing_at lab name ≡ there
       → Goes (export_under m made lab file name found there)
@@ -215,13 +217,13 @@ module _ {State Op : Type 0} (m : Meaning State Op) (made : Verb → ℕ → Op)
       let xs = place.front in
       let ys = place.back in
       let all = xs ++ replica r ∷ ys in
-      let family : IsHonestFamily m pair_members all = subst (IsHonestFamily m pair_members) place.now old.honest.family in
+      let family : IsTrueFamily m pair_members all = subst (IsTrueFamily m pair_members) place.now old.honest.family in
       let here : Contains all (batch b) = subst (λ (l : List (Thing Op)). Contains l (batch b)) place.now there in
       let counts : Counts k all = subst (Counts k) place.now old.counts in
       put m (k + 1) lab file s (xs ++ s ∷ ys) (place.then' s) (among_place m (k + 1) lab file (replica r) s place) old.honest
       (doc-merged r b ∙ doc_at m k lab old.honest file (replica r) at)
-      (family_merged m pair_members xs ys r family b here)
-      (λ e c i. let h = counts e (in_family_merged m pair_members xs ys r family b here e c) i in omega (arith, h))
+      (true_merged m pair_members xs ys r family b here)
+      (λ e c i. let h = counts e (in_family_merged m pair_members xs ys r family.honest b here e c) i in omega (arith, h))
 
   merge_goes : (file name : List ℕ) (found there : Option (Thing Op)) → thing_at lab file ≡ found → thing_at lab name ≡ there
       → Goes (merge_under m made lab file name found there)
@@ -292,7 +294,7 @@ module _ {State Op : Type 0} (m : Meaning State Op) (made : Verb → ℕ → Op)
   empty_honest = record {
     names = none_distinct;
     document = All-nil (λ (t : Thing Op). doc_of t ≡ pair_text);
-    family = family_empty m pair_members;
+    family = true_empty m pair_members;
   }
 
   pub run_from_empty : AreFair m made [] lines → length lines ≤ max_seq → Keeps m (0 + length lines) (lab_run m made [] lines).lab
@@ -306,16 +308,16 @@ module _ {State Op : Type 0} (m : Meaning State Op) (lab : Lab Op) (honest : IsH
   batch_there name b h = found_in m 0 lab name (batch b) h
 
   pub closed_at : (name : List ℕ) (r : Replica Op) → thing_at lab name ≡ Some (replica r) → IsClosed r.delivered
-  closed_at name r h = (sound_at m pair_members (things lab) honest.family r (replica_there name r h)).closed
+  closed_at name r h = (sound_at m pair_members (things lab) honest.family.honest r (replica_there name r h)).closed
 
   pub meets_at : (name other : List ℕ) (r : Replica Op) (b : Batch Op) → thing_at lab name ≡ Some (replica r) → thing_at lab other ≡ Some (batch b) → MayMerge r b
-  meets_at name other r b h k = may_merge m pair_members (things lab) honest.family r b (replica_there name r h) (batch_there other b k)
+  meets_at name other r b h k = may_merge m pair_members (things lab) honest.family.honest r b (replica_there name r h) (batch_there other b k)
 
   -- the same operations print the same text
   pub shown_alike : (made : Verb → ℕ → Op) (name other : List ℕ) (r s : Replica Op) → thing_at lab name ≡ Some (replica r) → thing_at lab other ≡ Some (replica s)
       → ((e : Entry Op) → Contains r.delivered e ↔ Contains s.delivered e) → act m made lab (Show name) ≡ act m made lab (Show other)
   shown_alike made name other r s h k same =
-      let q = delivered_alike m pair_members (things lab) honest.family r s (replica_there name r h) (replica_there other s k) same in
+      let q = delivered_alike m pair_members (things lab) honest.family.honest r s (replica_there name r h) (replica_there other s k) same in
       ap (show_under m made lab name) h
       ∙ ap (λ (l : List (Entry Op)). Ok (effect lab (document_text (m.show (document m l))))) q
       ∙ sym (ap (show_under m made lab other) k)
@@ -337,7 +339,7 @@ pub next_stamp_at : {State Op : Type 0} (m : Meaning State Op) (k : ℕ) (lab : 
     → (name : List ℕ) (r : Replica Op) → thing_at lab name ≡ Some (replica r) → IsStampOf pair_members (next_stamp r) × IsWithin (next_stamp r)
 next_stamp_at m k lab keeps room name r h =
     let ts = things lab in
-    let family = keeps.honest.family in
+    let family = keeps.honest.family.honest in
     let here = replica_there m lab keeps.honest name r h in
     let few : pair_members ≤ 16 = omega arith in
     let may = may_edit m pair_members ts family few r here in

@@ -5,7 +5,8 @@ use Rattle.std.specs.Str.{bytes_eq}
 use Rattle.vector_clock.specs.Clock.{count}
 use Rattle.vector_clock.specs.declared.stamp.Stamp.{Stamp}
 use Rattle.crdt_laws.specs.Tower.{IsStampOf, IsWithin, Meaning}
-use Rattle.replica_model.specs.Family.{Thing, replica, batch, replicas, operations, IsHonestFamily}
+use Rattle.replica_model.specs.Family.{Thing, replica, batch, replicas, operations}
+use Rattle.forgetting_model.specs.Truth.{IsTrueFamily}
 use Rattle.lab_model.specs.declared.command.Command.{Command}
 use Rattle.lab_model.specs.declared.command.Command.TheVariants.{New}
 use Rattle.lab_model.specs.declared.command.Verb.{Verb}
@@ -27,11 +28,11 @@ CountAtMost k lab = All (λ e. (i : ℕ) → count e.stamp.clock i ≤ k) (opera
 pub record MakesValid {State Op : Type 0} (m : Meaning State Op) (made : Verb → ℕ → Op) : Type 0 where
   pub each : (verb : Verb) (amount : ℕ) (p : Stamp) → amount < 2 ^ 64 → IsStampOf pair_members p → IsWithin p → m.valid p (made verb amount)
 
--- all is of the one document, and its replicas and batches are as honest members make them
+-- all is of the one document, its replicas and batches are as honest members make them, and what they say of members is true
 pub record IsHonestLab {State Op : Type 0} (m : Meaning State Op) (lab : Lab Op) : Type 0 where
   pub names : IsDistinct bytes_eq (map (λ pair. pair.0) lab)
   pub document : All (λ t. doc_of t ≡ pair_text) (things lab)
-  pub family : IsHonestFamily m pair_members (things lab)
+  pub family : IsTrueFamily m pair_members (things lab)
 
 module _ {State Op : Type 0} (m : Meaning State Op) (made : Verb → ℕ → Op) where
   -- a command that is accepted makes no second replica of a member

@@ -19,7 +19,7 @@ use Rattle.list_crdt.specs.declared.text.Cell.{Cell}
 use Rattle.list_crdt.specs.Position.{IsBefore, IsPosition, IsPositionOf, maker, max_steps, position_cmp}
 use Rattle.list_crdt.specs.Order.{position_total}
 use Rattle.list_crdt.specs.Between.{AreInOrder, IsBetween, position_between}
-use Rattle.list_crdt.specs.Text.{IsDeleteOf, IsInsertOf, IsRising, IsText, IsTextAt, place, place_before, with_at}
+use Rattle.list_crdt.specs.Text.{IsDeleteOf, IsInsertOf, IsRising, IsText, IsTextAt, at, place, place_before, with_at}
 use Rattle.list_crdt.specs.TextLaws.{any_position, covers_later}
 use Rattle.list_crdt.specs.Places.{IsStandingAt}
 use Rattle.list_crdt.proofs.Next.{maker_between, names_operations}
@@ -88,13 +88,13 @@ module _ (n : ℕ) (s : List Cell) (text : IsText n s) where
 
     -- a character between neighbours stands at their index
     pub inserted_between : (i ch : ℕ) → i ≤ length s → IsBetween (place_before s i) (place s i) r → with_at r (Some ch) s ≡ insert s i (record { at = r; ch = ch })
-    inserted_between i ch within h = sym (inserted r s i ch (gap r s text.rising i within (low i within h.after) (high i h.before)))
+    inserted_between i ch within h = sym (inserted at r s i (record { at = r; ch = ch }) (gap at r s text.rising i within (low i within h.after) (high i h.before)))
 
     -- a delete takes out the character at its position
     pub removed_at : (i : ℕ) → i < length s → place s i ≡ Some r → with_at r None s ≡ remove s i
     removed_at i within h =
         let here : (d : Cell) → position_cmp (get_or s i d).at r ≡ Equal = λ d. (let e : (get_or s i d).at ≡ r = some_same (sym (place_within s i d within) ∙ h) in ap (λ p. position_cmp p r) e ∙ tied_itself position_total r) in
-        let found : IsStandingAt r s i = standing r s text.rising i within here in
+        let found : IsStandingAt at r s i = standing at r s text.rising i within here in
         let last : i + 1 ≡ suc i = omega arith in
         ap₂ (λ (x y : List Cell). x ++ y) found.front (found.back ∙ ap (λ k. drop k s) last)
       where

@@ -1,10 +1,9 @@
 -- Texts: characters by rising position. A character is a Unicode scalar value.
-use Rattle.std.specs.Prelude.{◌≡◌, ℕ, zero, suc, Bool, true, false, List, [], ◌∷◌, ◌++◌, map, Option, None, Some, IsTrue}
+use Rattle.std.specs.Prelude.{◌≡◌, ℕ, zero, suc, true, false, List, [], map, Option, None, Some, IsTrue}
 use Rattle.std.specs.Prelude.{encode_utf8_all, slice_get}
 use Rattle.std.specs.Char.{IsScalar}
 use Rattle.std.specs.Option.{option_map}
-use Rattle.std.specs.List.{All, AllPairs, filter}
-use Rattle.std.specs.Ordering.{is_lt}
+use Rattle.std.specs.List.{All}
 use Rattle.serde_json.specs.Data.{string}
 use Rattle.vector_clock.specs.declared.clock.Clock.{Clock}
 use Rattle.vector_clock.specs.declared.stamp.Stamp.{Stamp}
@@ -15,30 +14,17 @@ use Rattle.list_crdt.specs.declared.position.Step.{Step}
 use Rattle.list_crdt.specs.declared.text.Cell.{Cell}
 use Rattle.list_crdt.specs.declared.text.TextOp.{TextOp}
 use Rattle.list_crdt.specs.declared.text.TextOp.TheVariants.{Insert, Delete}
-use Rattle.list_crdt.specs.Position.{IsBefore, IsPosition, IsPositionOf, maker, position_cmp}
+use Rattle.list_crdt.specs.Cells as cells
+use Rattle.list_crdt.specs.Position.{IsPosition, IsPositionOf, maker}
 
--- whether a character stands before a position, or after it
-abbrev pub stands_before : List Step → Cell → Bool
-stands_before p c = is_lt (position_cmp c.at p)
-
-abbrev pub stands_after : List Step → Cell → Bool
-stands_after p c = is_lt (position_cmp p c.at)
-
--- what stands before a position, and what stands after it
-abbrev pub before : List Step → List Cell → List Cell
-before p s = filter (stands_before p) s
-
-abbrev pub after : List Step → List Cell → List Cell
-after p s = filter (stands_after p) s
-
--- the character at the position, if there is one
-abbrev pub cells_at : List Step → Option ℕ → List Cell
-cells_at p None = []
-cells_at p (Some ch) = record { at = p; ch = ch } ∷ []
+-- the position of a character
+abbrev pub at : Cell → List Step
+at c = c.at
 
 -- the text with this character, or with none, at the position, whatever stood there
 abbrev pub with_at : List Step → Option ℕ → List Cell → List Cell
-with_at p o s = before p s ++ (cells_at p o ++ after p s)
+with_at p None s = cells.with_at at p None s
+with_at p (Some ch) s = cells.with_at at p (Some (record { at = p; ch = ch })) s
 
 -- an insert puts its character at its position, and a delete leaves none at its own
 abbrev pub edited : List Cell → TextOp → List Cell
@@ -55,7 +41,7 @@ place_before s (suc i) = place s i
 
 -- each character comes before all later ones
 abbrev pub IsRising : List Cell → Type 0
-IsRising s = AllPairs (λ a b. IsBefore a.at b.at) s
+IsRising s = cells.IsRising at s
 
 pub record IsCellOf (n : ℕ) (c : Cell) : Type 0 where
   pub position : IsPositionOf n c.at

@@ -1,7 +1,6 @@
 -- Texts are a lawful tower.
 use Rattle.std.specs.Prelude.{◌≡◌, ℕ, List, [], ◌∷◌, Some, None, true, false, IsTrue}
 use Rattle.std.proofs.Common.{refl, sym, ap, ◌∙◌, subst, arith, inl, inr}
-use Rattle.std.specs.Char.{IsScalar}
 use Rattle.std.specs.List.{All}
 use Rattle.std.proofs.lemmas.List.Elements.{All-nil, All-weaker}
 use Rattle.std.proofs.lemmas.Bool.{false≢true}
@@ -18,7 +17,7 @@ use Rattle.list_crdt.specs.declared.text.Cell.{Cell}
 use Rattle.list_crdt.specs.declared.text.TextOp.{TextOp}
 use Rattle.list_crdt.specs.declared.text.TextOp.TheVariants.{Insert, Delete}
 use Rattle.list_crdt.specs.Position.{AreSteps, HasDigit, IsPosition, IsPositionOf, NamesOperation, maker}
-use Rattle.list_crdt.specs.Text.{IsCellOf, IsDeleteOf, IsEdit, IsEditOf, IsInsertOf, IsText, IsTextAt, edited, text_meaning}
+use Rattle.list_crdt.specs.Text.{IsCellOf, IsDeleteOf, IsEdit, IsEditOf, IsInsertOf, IsText, IsTextAt, at, edited, text_meaning}
 use Rattle.list_crdt.specs.Around.{all-with_at, any_order, deletes_swap, rising-with_at}
 
 -- a position of a document is a position
@@ -44,43 +43,37 @@ unfolding are_concurrent is_before
 not_known p q h = let d = concurrent_other p q h in grind arith
 
 -- an insert is not at the position of a concurrent insert or delete
-other_insert : (p q : Stamp) (at as' : List Step) (ch ch' : ℕ) → are_concurrent p q ≡ true → IsInsertOf p at ch → IsInsertOf q as' ch' → at ≡ as' → ⊥
+pub other_insert : (p q : Stamp) (at as' : List Step) (ch ch' : ℕ) → are_concurrent p q ≡ true → IsInsertOf p at ch → IsInsertOf q as' ch' → at ≡ as' → ⊥
 other_insert p q at as' ch ch' c h k e = other_names p q (concurrent_other p q c) (sym k.own ∙ sym (ap maker e) ∙ h.own)
 
-other_delete : (p q : Stamp) (at as' : List Step) (ch : ℕ) → are_concurrent p q ≡ true → IsInsertOf p at ch → IsDeleteOf q as' → at ≡ as' → ⊥
+pub other_delete : (p q : Stamp) (at as' : List Step) (ch : ℕ) → are_concurrent p q ≡ true → IsInsertOf p at ch → IsDeleteOf q as' → at ≡ as' → ⊥
 other_delete p q at as' ch c h k e =
     let named : maker as' ≡ id_of p = sym (ap maker e) ∙ h.own in
     false≢true (sym (not_known p q c) ∙ sym (ap (λ i. covers q.clock i) named) ∙ k.known)
 
-some_same : (c d : ℕ) → Some c ≡ Some d → c ≡ d
-some_same c d e = cc
-
-no_char : (c : ℕ) → None ≡ Some c → ⊥
-no_char c e = cc
-
 commute : (n : ℕ) (s : List Cell) (p q : Stamp) (x y : TextOp) → MaySwap text_meaning n s p q → IsIssued text_meaning n p x → IsIssued text_meaning n q y
     → edited (edited s x) y ≡ edited (edited s y) x
-commute n s p q (Insert a c) (Insert b d) w h k = any_order a b (Some c) (Some d) s (other_insert p q a b c d w.concurrent h.valid k.valid)
-commute n s p q (Insert a c) (Delete b) w h k = any_order a b (Some c) None s (other_delete p q a b c w.concurrent h.valid k.valid)
+commute n s p q (Insert a c) (Insert b d) w h k = any_order at a b (Some (record { at = a; ch = c })) (Some (record { at = b; ch = d })) refl refl s (other_insert p q a b c d w.concurrent h.valid k.valid)
+commute n s p q (Insert a c) (Delete b) w h k = any_order at a b (Some (record { at = a; ch = c })) None refl tt s (other_delete p q a b c w.concurrent h.valid k.valid)
 commute n s p q (Delete a) (Insert b d) w h k =
-    sym (any_order b a (Some d) None s (other_delete q p b a d (concurrent_sym p q w.concurrent) k.valid h.valid))
-commute n s p q (Delete a) (Delete b) w h k = deletes_swap a b s
+    sym (any_order at b a (Some (record { at = b; ch = d })) None refl tt s (other_delete q p b a d (concurrent_sym p q w.concurrent) k.valid h.valid))
+commute n s p q (Delete a) (Delete b) w h k = deletes_swap at a b s
 
 -- each edit keeps a text
 
 edited_text : (n : ℕ) (s : List Cell) (p : Stamp) (x : TextOp) → IsText n s → p.clock.n ≡ n → IsEditOf p x → IsText n (edited s x)
-edited_text n s p (Insert at ch) t e h = record {
-  rising = rising-with_at at s (Some ch) t.rising;
-  cells = all-with_at (IsCellOf n) at (Some ch) (λ c k. record { position = subst (λ m. IsPositionOf m at) e h.position; char = subst IsScalar (some_same ch c k) h.char }) s t.cells;
+edited_text n s p (Insert a ch) t e h = record {
+  rising = rising-with_at at a s (Some (record { at = a; ch = ch })) refl t.rising;
+  cells = all-with_at at (IsCellOf n) a (Some (record { at = a; ch = ch })) (record { position = subst (λ m. IsPositionOf m a) e h.position; char = h.char }) s t.cells;
 }
-edited_text n s p (Delete at) t e h = record {
-  rising = rising-with_at at s None t.rising;
-  cells = all-with_at (IsCellOf n) at None (λ c k. absurd (no_char c k)) s t.cells;
+edited_text n s p (Delete a) t e h = record {
+  rising = rising-with_at at a s None tt t.rising;
+  cells = all-with_at at (IsCellOf n) a None tt s t.cells;
 }
 
 edited_known : (d : Clock) (s : List Cell) (p : Stamp) (x : TextOp) → IsTextAt d s → IsEditOf p x → IsTrue (covers d (id_of p)) → All (λ c. IsTrue (covers d (maker c.at))) (edited s x)
-edited_known d s p (Insert at ch) t h k = all-with_at (λ c. IsTrue (covers d (maker c.at))) at (Some ch) (λ c e. ap (covers d) h.own ∙ k) s t.known
-edited_known d s p (Delete at) t h k = all-with_at (λ c. IsTrue (covers d (maker c.at))) at None (λ c e. absurd (no_char c e)) s t.known
+edited_known d s p (Insert a ch) t h k = all-with_at at (λ c. IsTrue (covers d (maker c.at))) a (Some (record { at = a; ch = ch })) (ap (covers d) h.own ∙ k) s t.known
+edited_known d s p (Delete a) t h k = all-with_at at (λ c. IsTrue (covers d (maker c.at))) a None tt s t.known
 
 -- a later clock covers what an earlier one covers
 pub covers_later : (d e : Clock) (i : Id) → IsAtMost d e → IsTrue (covers d i) → IsTrue (covers e i)

@@ -1,46 +1,37 @@
 ghost use Rattle.std.specs.Prelude.{◌≡◌, ◌+◌, Some, None, IfErr, IfOk};
-ghost use Rattle.list_crdt.specs.Text.{IsRising, with_at};
+ghost use Rattle.list_crdt.specs.Cells.{IsRising, with_at};
 ghost use Rattle.list_crdt.specs.Places.{IsGapAt, IsStandingAt};
 
+use crate::placed::Placed;
 use crate::position::Position;
-use crate::text::{Cell, TextState};
 use crdt_laws::{List, NoMemory};
-use std::alloc::Global;
 
-/// Where the character at the position stands, or else where it would stand.
-fn find(cells: &[Cell], at: &Position) -> Result<usize, usize>
-    requires { IsRising cells.now }
-    ensures there { IfOk result (IsStandingAt at.now cells.now) }
-    ensures absent { IfErr result (IsGapAt at.now cells.now) }
+/// Where the position stands among things by rising position, or else where a thing there would stand. It is found by halving.
+pub fn find<C: Placed>(cells: &[C], at: &Position) -> Result<usize, usize>
+    requires { IsRising C.position cells.now }
+    ensures there { IfOk result (IsStandingAt C.position at.now cells.now) }
+    ensures absent { IfErr result (IsGapAt C.position at.now cells.now) }
 {
-    cells.binary_search_by(|cell| cell.at.cmp(at))
+    cells.binary_search_by(|cell| cell.at().cmp(at))
 }
 
-/// The text with this character at the position, in the place of what stood there.
-pub(crate) fn with_char(
-    alloc: Global,
-    state: TextState,
-    at: &Position,
-    ch: char,
-) -> Result<TextState, NoMemory>
-    requires { IsRising state }
-    ensures { IfOk result (λ s. s ≡ with_at at.now (Some ch) state) }
+/// The things with this one at its position, in the place of what stood there.
+pub fn with_cell<C: Placed + Drop>(state: List<C>, cell: C) -> Result<List<C>, NoMemory>
+    requires { IsRising C.position state }
+    ensures { IfOk result (λ s. s ≡ with_at C.position (C.position cell) (Some cell) state) }
 {
     let List { items: mut cells } = state;
-    match find(&cells, at) {
-        Ok(i) => cells[i].ch = ch,
-        Err(i) => {
-            let at = at.copy(alloc)?;
-            cells.insert(i, Cell { at, ch })?;
-        }
+    match find(&cells, cell.at()) {
+        Ok(i) => cells[i] = cell,
+        Err(i) => cells.insert(i, cell)?,
     }
     Ok(List { items: cells })
 }
 
-/// The text with no character at the position.
-pub(crate) fn without(state: TextState, at: &Position) -> TextState
-    requires { IsRising state }
-    ensures { result ≡ with_at at.now None state }
+/// The things with none at the position.
+pub fn without<C: Placed + Drop>(state: List<C>, at: &Position) -> List<C>
+    requires { IsRising C.position state }
+    ensures { result ≡ with_at C.position at.now None state }
 {
     let List { items: mut cells } = state;
     if let Ok(i) = find(&cells, at) {

@@ -5,13 +5,16 @@
 mod cells;
 mod gap;
 mod laws;
+mod placed;
 mod position;
 mod text;
 
+pub use cells::{find, with_cell, without};
 pub use gap::{ListError, between};
 pub use laws::{edits_by_index, next_positions, position_order, text_is_lawful, valid_edits};
+pub use placed::Placed;
 pub use position::{Position, Step};
-pub use text::{Cell, Text, TextOp, TextState};
+pub use text::{Cell, Text, TextOp, TextState, is_known_at, may_insert_at};
 
 #[cfg(test)]
 mod tests;

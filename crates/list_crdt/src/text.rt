@@ -1,10 +1,12 @@
 ghost use Rattle.std.specs.Prelude.{◌≡◌, ◌≤◌, ◌↔◌, IsNone, IsTrue, IfOk, length};
 ghost use Rattle.std.specs.Option.{option_copied};
-ghost use Rattle.vector_clock.specs.Stamp.{IsStamp};
+ghost use Rattle.vector_clock.specs.Stamp.{IsStamp, id_of};
 ghost use Rattle.crdt_laws.specs.Tower.{IsWithin};
-ghost use Rattle.list_crdt.specs.Position.{IsPositionOf};
+ghost use Rattle.list_crdt.specs.Position.{IsPositionOf, maker};
+ghost use Rattle.list_crdt.specs.Text.{IsDeleteOf};
 
-use crate::cells::{with_char, without};
+use crate::cells::{with_cell, without};
+use crate::placed::Placed;
 use crate::position::Position;
 use crdt_laws::{List, NoMemory, Tower, is_within};
 use serde_json::Value;
@@ -30,6 +32,16 @@ impl Cell {
     }
 }
 
+impl Placed for Cell {
+    ghost use Rattle.list_crdt.specs.Text.{at};
+
+    ghost position = { at };
+
+    fn at(&self) -> &Position {
+        &self.at
+    }
+}
+
 /// The characters of a text by strictly rising position.
 pub type TextState = List<Cell>;
 
@@ -49,6 +61,22 @@ fn may_name(stamp: &Stamp, at: &Position) -> bool
     ensures { IsTrue result ↔ IsWithin stamp.now × IsPositionOf stamp.now.clock.n at.now }
 {
     is_within(stamp) && at.is_of(stamp.clock.n)
+}
+
+/// Whether the position may be that of an insert at this stamp: its last step has the insert's name.
+pub fn may_insert_at(stamp: &Stamp, at: &Position) -> bool
+    requires { IsStamp stamp.now }
+    ensures { IsTrue result ↔ IsWithin stamp.now × (IsPositionOf stamp.now.clock.n at.now × (maker at.now ≡ id_of stamp.now)) }
+{
+    may_name(stamp, at) && at.maker() == stamp.id()
+}
+
+/// Whether the position was made for another operation, which the member knows at this stamp.
+pub fn is_known_at(stamp: &Stamp, at: &Position) -> bool
+    requires { IsStamp stamp.now }
+    ensures { IsTrue result ↔ IsDeleteOf stamp.now at.now }
+{
+    may_name(stamp, at) && at.maker() != stamp.id() && stamp.clock.covers(at.maker())
 }
 
 /// The tower of texts, of one level. A text is at first empty, and is shown as a string. An edit finds its place by halving the
@@ -78,11 +106,9 @@ impl Tower for Text {
         match op {
             TextOp::Insert { at, ch } => {
                 let _char = *ch;
-                may_name(stamp, at) && at.maker() == stamp.id()
+                may_insert_at(stamp, at)
             }
-            TextOp::Delete { at } => {
-                may_name(stamp, at) && at.maker() != stamp.id() && stamp.clock.covers(at.maker())
-            }
+            TextOp::Delete { at } => is_known_at(stamp, at),
         }
     }
 
@@ -98,7 +124,10 @@ impl Tower for Text {
         op: &TextOp,
     ) -> Result<TextState, NoMemory> {
         match op {
-            TextOp::Insert { at, ch } => with_char(alloc, state, at, *ch),
+            TextOp::Insert { at, ch } => {
+                let at = at.copy(alloc)?;
+                with_cell(state, Cell { at, ch: *ch })
+            }
             TextOp::Delete { at } => Ok(without(state, at)),
         }
     }

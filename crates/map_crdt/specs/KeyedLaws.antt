@@ -16,7 +16,7 @@ use Rattle.vector_clock.specs.declared.clock.Id.{Id}
 use Rattle.vector_clock.specs.declared.stamp.Stamp.{Stamp}
 use Rattle.vector_clock.specs.Clock.{IsAtMost, covers}
 use Rattle.vector_clock.specs.Stamp.{IsAfter, IsStamp, id_of}
-use Rattle.crdt_laws.specs.Tower.{Meaning, IsLawful, IsIssued, Agrees, Lacks, MaySwap}
+use Rattle.crdt_laws.specs.Tower.{Meaning, IsLawful, IsIssued, Agrees, Lacks, MaySwap, WasIssued}
 use Rattle.crdt_laws.proofs.Filters.{all_weaker}
 use Rattle.map_crdt.specs.declared.keyed.KeyOp.{KeyOp}
 use Rattle.map_crdt.specs.declared.keyed.KeyState.{KeyState}
@@ -269,7 +269,7 @@ module _ {S O : Type 0} (m : Meaning S O) (law : IsLawful m) where
     | inr d ↦ subst (λ z. IsKey z.key × m.well_formed z.op) (sym (act-other m y x d)) k
   ]
 
-  valid-act : (p : Stamp) (y x : KeyOp O) → IsStamp p → m.well_formed y.op → IsKey x.key × m.valid p x.op → IsKey (keyed_act m y x).key × m.valid p (keyed_act m y x).op
+  valid-act : (p : Stamp) (y x : KeyOp O) → IsStamp p → WasIssued m p.clock.n y.op → IsKey x.key × m.valid p x.op → IsKey (keyed_act m y x).key × m.valid p (keyed_act m y x).op
   valid-act p y x stamp h k = elim (same_or_other y.key x.key) [
     | inl e ↦ subst (λ z. IsKey z.key × m.valid p z.op) (sym (act-same m y x e)) (k.0, law.valid-act p y.op x.op stamp h k.1)
     | inr d ↦ subst (λ z. IsKey z.key × m.valid p z.op) (sym (act-other m y x d)) k
@@ -458,7 +458,7 @@ module _ {S O : Type 0} (m : Meaning S O) (law : IsLawful m) where
     level-act = λ y x h k. level-act y x h.1 k.1;
     act_below = λ y x h k below. act_below y x h.1 k.1 below;
     well_formed-act = λ y x h k. well_formed-act y x h.1 k;
-    valid-act = λ p y x stamp h k. valid-act p y x stamp h.1 k;
+    valid-act = λ p y x stamp h k. valid-act p y x stamp (record { at = h.at; issued = issued p.clock.n h.at y h.issued }) k;
     commute = commute;
     exchange = exchange;
     act-act = λ y v x h j k same. act-act y v x h.1 j.1 k.1 same;

@@ -1,5 +1,5 @@
 -- What a register means that keeps one text: of all sets the one of the greatest key.
-use Rattle.std.specs.Prelude.{◌≡◌, ◌⊎◌, ℕ, ◌*◌, ◌<◌, ◌≤◌, List, true, false, if◌then◌else◌, IsTrue, Option, Some, None}
+use Rattle.std.specs.Prelude.{◌≡◌, ◌⊎◌, ℕ, List, true, false, if◌then◌else◌, IsTrue, Option, Some, None}
 use Rattle.std.specs.List.{Contains}
 use Rattle.serde_json.specs.Data.{Data, null, string}
 use Rattle.vector_clock.specs.declared.clock.Clock.{Clock}
@@ -9,7 +9,8 @@ use Rattle.vector_clock.specs.declared.stamp.Stamp.{Stamp}
 use Rattle.vector_clock.specs.Clock.{covers}
 use Rattle.vector_clock.specs.Stamp.{is_below, is_less, key_of}
 use Rattle.crdt_laws.specs.declared.small.Entry.{Entry}
-use Rattle.crdt_laws.specs.Tower.{Meaning, max_seq}
+use Rattle.crdt_laws.specs.Keys.{IsKeyOf}
+use Rattle.crdt_laws.specs.Tower.{Meaning}
 use Rattle.register_crdts.specs.declared.latest.Set.{Set}
 use Rattle.register_crdts.specs.Text.{IsText, IsTextAt}
 
@@ -34,13 +35,6 @@ latest_show (Some s) = string s.text
 -- the name of the operation that has this key
 abbrev pub id_of_key : Key → Id
 id_of_key k = record { member = k.member; seq = k.seq }
-
--- a key that a valid operation of a document with n members may have
-pub record IsKeyOf (n : ℕ) (k : Key) : Type 0 where
-  pub sum : k.sum ≤ n * max_seq
-  pub member : k.member < n
-  pub low : 1 ≤ k.seq
-  pub high : k.seq ≤ max_seq
 
 -- a set of a document with n members
 pub record IsSetOf (n : ℕ) (s : Set) : Type 0 where

@@ -1,44 +1,22 @@
 -- The register of one text is a lawful tower.
-use Rattle.std.specs.Prelude.{◌≡◌, ℕ, zero, suc, ◌+◌, ◌*◌, ◌≤◌, List, [], ◌∷◌, true, false, IsTrue, Option, Some, None, sum, slice_index}
-use Rattle.std.proofs.Common.{ap, refl, sym, arith, inl, inr, subst, zero-mul}
+use Rattle.std.specs.Prelude.{◌≡◌, ℕ, ◌≤◌, List, true, false, IsTrue, Option, Some, None}
+use Rattle.std.proofs.Common.{ap, refl, sym, arith, inl, inr, subst}
 use Rattle.std.proofs.lemmas.Bool.{cases_Bool, cond_both}
 use Rattle.std.proofs.lemmas.Bool.Decides.{nat_tests}
-use Rattle.std.proofs.lemmas.List.Sums.{sum_by-cons}
 use Rattle.vector_clock.specs.declared.clock.Clock.{Clock}
 use Rattle.vector_clock.specs.declared.stamp.Key.{Key}
 use Rattle.vector_clock.specs.declared.stamp.Stamp.{Stamp}
 use Rattle.vector_clock.specs.Clock.{IsAtMost, count, covers}
-use Rattle.vector_clock.specs.Stamp.{id_of, is_less, key_of, is_below, same_id}
+use Rattle.vector_clock.specs.Stamp.{id_of, is_less, is_below, same_id}
 use Rattle.vector_clock.proofs.Keys.{key_asym, key_total, concurrent_other}
-use Rattle.crdt_laws.specs.Tower.{IsLawful, IsIssued, IsStampOf, IsWithin, MaySwap, max_seq}
+use Rattle.crdt_laws.specs.Tower.{IsLawful, IsIssued, MaySwap}
 use Rattle.register_crdts.specs.declared.latest.Set.{Set}
-use Rattle.register_crdts.specs.Latest.{IsKeyOf, IsSetOf, id_of_key, later, latest_apply, latest_good, latest_good_at, latest_meaning, set_at}
+use Rattle.crdt_laws.proofs.KeyRanges.{key_issued}
+use Rattle.register_crdts.specs.Latest.{IsSetOf, id_of_key, later, latest_apply, latest_good, latest_good_at, latest_meaning, set_at}
 
 pub less_trans : (j k l : Key) → is_less j k ≡ true → is_less k l ≡ true → is_less j l ≡ true
 unfolding is_less
 less_trans j k l a b = grind (arith, nat_tests)
-
--- a sum of entries of which only the first n are not 0
-sum_bounded : (n bound : ℕ) (xs : List ℕ) → ((i : ℕ) → slice_index xs i ≤ bound) → ((i : ℕ) → n ≤ i → slice_index xs i ≡ 0) → sum xs ≤ n * bound
-sum_bounded n bound [] most empty = omega arith
-sum_bounded zero bound (x ∷ xs) most empty =
-    let head : x ≡ 0 = empty 0 (omega arith) in
-    let rest : sum xs ≤ 0 * bound = sum_bounded zero bound xs (λ i. most (suc i)) (λ i _. empty (suc i) (omega arith)) in
-    omega (arith, sum_by-cons (λ y. y) x xs, zero-mul bound)
-sum_bounded (suc n) bound (x ∷ xs) most empty =
-    let head : x ≤ bound = most 0 in
-    let rest : sum xs ≤ n * bound = sum_bounded n bound xs (λ i. most (suc i)) (λ i h. empty (suc i) (omega arith)) in
-    let more : suc n * bound ≡ bound + n * bound = omega arith in
-    omega (arith, sum_by-cons (λ y. y) x xs)
-
--- the key of an issued operation
-key_issued : (n : ℕ) (p : Stamp) → IsStampOf n p → IsWithin p → IsKeyOf n (key_of p)
-key_issued n p stamp within = record {
-  sum = sum_bounded n max_seq p.clock.at within.each (λ i h. stamp.stamp.clock.empty_past i (omega (arith, stamp.members)));
-  member = omega (arith, stamp.stamp.member, stamp.members);
-  low = stamp.stamp.counted;
-  high = within.each p.member;
-}
 
 -- sets of different keys may come in either order, since the greatest key stays
 later_swap : (s a b : Set) → is_less a.key b.key ≡ true → is_less b.key a.key ≡ false → later (later s a) b ≡ later (later s b) a

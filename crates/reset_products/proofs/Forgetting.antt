@@ -15,6 +15,7 @@ use Rattle.crdt_laws.specs.Sets.{AreApart, IsCausal, canonical, place}
 use Rattle.crdt_laws.specs.Tower.{Meaning}
 use Rattle.crdt_laws.proofs.Filters.{all-filter, apart-filter}
 use Rattle.crdt_laws.proofs.Place.{place_swap, rising-canonical}
+use Rattle.crdt_laws.proofs.Seams.{apart_before, pairs_before}
 use Rattle.weave_core.specs.Deliver.{is_outside}
 use Rattle.weave_core.proofs.Placed.{filter-place, filter-place_in}
 use Rattle.reset_products.specs.declared.observed.ObservedOp.{ObservedOp}
@@ -153,25 +154,6 @@ module _ {O : Type 0} where
       filter_both q r (a ∷ l) = let ih : filter q (filter r l) ≡ filter (λ y. q y && r y) l = filter_both q r l in grind (arith, ih)
 
 -- what stands before x in a list
-
-at_seam : {X : Type 0} (ds xs : List X) (x d : X) → get_or (ds ++ x ∷ xs) (length ds) d ≡ x
-at_seam [] xs x d = refl
-at_seam (a ∷ ds) xs x d = at_seam ds xs x d
-
-pub pairs_before : {X : Type 0} (R : X → X → Type 0) (ds xs : List X) (x : X) → AllPairs R (ds ++ x ∷ xs) → AllByRecursion (λ r. R r x) ds
-pairs_before R [] xs x h = tt
-pairs_before {X} R (r ∷ ds) xs x h = (
-  subst (R r) (at_seam ds xs x x) (h 0 (suc (length ds)) x (omega arith) (let e : length (ds ++ x ∷ xs) ≡ length ds + suc (length xs) = length-append ds (x ∷ xs) in omega arith)),
-  pairs_before R ds xs x (λ i j d l m. h (suc i) (suc j) d (omega arith) (let q : j < length (ds ++ x ∷ xs) = m in omega arith)),
-)
-
-pub apart_before : {Op : Type 0} (ds xs : List (Entry Op)) (x : Entry Op) → AreApart (ds ++ x ∷ xs) → AllByRecursion (λ r. same_id r.stamp x.stamp ≡ false) ds
-apart_before [] xs x h = tt
-apart_before {Op} (r ∷ ds) xs x h = (seam ds h.0, apart_before ds xs x h.1)
-  where
-    seam : (l : List (Entry Op)) → AllByRecursion (λ y. same_id r.stamp y.stamp ≡ false) (l ++ x ∷ xs) → same_id r.stamp x.stamp ≡ false
-    seam [] k = k.0
-    seam (a ∷ l) k = seam l k.1
 
 apart_front : {Op : Type 0} (ds xs : List (Entry Op)) → AreApart (ds ++ xs) → AreApart ds
 apart_front [] xs h = tt

@@ -24,7 +24,7 @@ use Rattle.semidirect_product.specs.Maybe.{maybe_act, maybe_level}
 use Rattle.weave_core.proofs.Placed.{filter_none}
 use Rattle.weave_core.proofs.Split.{apply_all-append, own_forms-append}
 use Rattle.reset_products.specs.Untouched.{WinningOp, is_win, real_and, reals_of, touches, untouched, winning_meaning}
-use Rattle.reset_products.proofs.Forgetting.{apart_before, pairs_before}
+use Rattle.crdt_laws.proofs.Seams.{apart_before, pairs_before}
 
 -- the operations of the tower
 

@@ -6,7 +6,7 @@ use Rattle.vector_clock.specs.declared.stamp.Stamp.{Stamp}
 use Rattle.vector_clock.specs.declared.clock.Id.{Id}
 use Rattle.vector_clock.specs.Clock.{IsAtMost, covers}
 use Rattle.vector_clock.specs.Stamp.{IsAfter, IsStamp, id_of}
-use Rattle.crdt_laws.specs.Tower.{Meaning, IsLawful, IsIssued, IsWithin, Lacks, Agrees, MaySwap}
+use Rattle.crdt_laws.specs.Tower.{Meaning, IsLawful, IsIssued, IsWithin, Lacks, Agrees, MaySwap, WasIssued}
 use Rattle.semidirect_product.specs.declared.maybe.MaybeOp.{MaybeOp}
 use Rattle.semidirect_product.specs.declared.maybe.MaybeOp.TheVariants.{Real, Nothing}
 use Rattle.semidirect_product.specs.Maybe.{maybe_act, maybe_apply, maybe_level, maybe_meaning, maybe_valid, maybe_well_formed}
@@ -28,6 +28,9 @@ module _ {S O : Type 0} (m : Meaning S O) where
 
   issued : (n : ℕ) (p : Stamp) (x : O) → IsIssued (maybe_meaning m) n p (Real x) → IsIssued m n p x
   issued n p x h = record { stamp = h.stamp; valid = h.valid }
+
+  was_issued : (n : ℕ) (x : O) → WasIssued (maybe_meaning m) n (Real x) → WasIssued m n x
+  was_issued n x h = record { at = h.at; issued = issued n h.at x h.issued }
 
 module _ {S O : Type 0} (m : Meaning S O) (law : IsLawful m) where
   valid_within : (p : Stamp) (x : MaybeOp O) → maybe_valid m p x → IsWithin p
@@ -64,8 +67,8 @@ module _ {S O : Type 0} (m : Meaning S O) (law : IsLawful m) where
   well_formed-act (Real y) (Nothing l) h k = k
   well_formed-act (Nothing j) (Nothing l) h k = k
 
-  valid-act : (p : Stamp) (y x : MaybeOp O) → IsStamp p → maybe_well_formed m y → maybe_valid m p x → maybe_valid m p (maybe_act m y x)
-  valid-act p (Real y) (Real x) stamp h k = law.valid-act p y x stamp h k
+  valid-act : (p : Stamp) (y x : MaybeOp O) → IsStamp p → WasIssued (maybe_meaning m) p.clock.n y → maybe_valid m p x → maybe_valid m p (maybe_act m y x)
+  valid-act p (Real y) (Real x) stamp h k = law.valid-act p y x stamp (was_issued m p.clock.n y h) k
   valid-act p (Nothing j) (Real x) stamp h k = k
   valid-act p (Real y) (Nothing l) stamp h k = k
   valid-act p (Nothing j) (Nothing l) stamp h k = k

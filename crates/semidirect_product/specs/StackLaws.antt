@@ -6,8 +6,8 @@ use Rattle.vector_clock.specs.declared.stamp.Stamp.{Stamp}
 use Rattle.vector_clock.specs.declared.clock.Id.{Id}
 use Rattle.vector_clock.specs.Clock.{IsAtMost, covers}
 use Rattle.vector_clock.specs.Stamp.{IsAfter, IsStamp, id_of}
-use Rattle.crdt_laws.specs.Tower.{Meaning, IsLawful, IsIssued, IsWithin, Lacks, Agrees, MaySwap}
-use Rattle.crdt_laws.specs.Actor.{Action, IsLawfulAction, IsActing}
+use Rattle.crdt_laws.specs.Tower.{Meaning, IsLawful, IsIssued, IsWithin, Lacks, Agrees, MaySwap, WasIssued}
+use Rattle.crdt_laws.specs.Actor.{Action, IsLawfulAction, IsActing, WasActing}
 use Rattle.semidirect_product.specs.declared.stack.StackOp.{StackOp}
 use Rattle.semidirect_product.specs.declared.stack.StackOp.TheVariants.{Low, High}
 use Rattle.semidirect_product.specs.Stack.{stack_act, stack_apply, stack_level, stack_meaning, stack_valid, stack_well_formed}
@@ -34,6 +34,12 @@ module _ {S L H : Type 0} (m : Meaning S L) (a : Action S L H) where
 
   high_issued : (n : ℕ) (p : Stamp) (y : H) → IsIssued (stack_meaning m a) n p (High y) → IsActing a n p y
   high_issued n p y h = record { stamp = h.stamp; valid = h.valid }
+
+  low_was : (n : ℕ) (x : L) → WasIssued (stack_meaning m a) n (Low x) → WasIssued m n x
+  low_was n x h = record { at = h.at; issued = low_issued n h.at x h.issued }
+
+  high_was : (n : ℕ) (y : H) → WasIssued (stack_meaning m a) n (High y) → WasActing a n y
+  high_was n y h = record { at = h.at; issued = high_issued n h.at y h.issued }
 
 module _ {S L H : Type 0} (m : Meaning S L) (law : IsLawful m) (a : Action S L H) (act : IsLawfulAction m a) where
   valid_within : (p : Stamp) (x : StackOp L H) → stack_valid m a p x → IsWithin p
@@ -70,9 +76,9 @@ module _ {S L H : Type 0} (m : Meaning S L) (law : IsLawful m) (a : Action S L H
   well_formed-act (Low y) (High x) h k = k
   well_formed-act (High y) (High x) h k = k
 
-  valid-act : (p : Stamp) (y x : StackOp L H) → IsStamp p → stack_well_formed m a y → stack_valid m a p x → stack_valid m a p (stack_act m a y x)
-  valid-act p (Low y) (Low x) stamp h k = law.valid-act p y x stamp h k
-  valid-act p (High y) (Low x) stamp h k = act.valid-act p y x stamp h k
+  valid-act : (p : Stamp) (y x : StackOp L H) → IsStamp p → WasIssued (stack_meaning m a) p.clock.n y → stack_valid m a p x → stack_valid m a p (stack_act m a y x)
+  valid-act p (Low y) (Low x) stamp h k = law.valid-act p y x stamp (low_was m a p.clock.n y h) k
+  valid-act p (High y) (Low x) stamp h k = act.valid-act p y x stamp (high_was m a p.clock.n y h) k
   valid-act p (Low y) (High x) stamp h k = k
   valid-act p (High y) (High x) stamp h k = k
 

@@ -4,3 +4,6 @@ pub mod FoldPlain
 pub mod Split
 pub mod Runs
 pub mod Loops
+pub mod Changed
+pub mod Delivered
+pub mod Again

@@ -3,6 +3,8 @@
 
 mod fold;
 mod parts;
+mod woven;
 
 pub use fold::fold_plain;
 pub use parts::{outside, place_in};
+pub use woven::Woven;

@@ -22,7 +22,27 @@ fn is_below(a: &Stamp, b: &Stamp) -> bool
     a.key() < b.key()
 }
 
-/// The place of a stamp by its key, by binary search: the first entry whose key is greater, or the end.
+/// Before which no entry has a greater key: the end, where the last one has none, and else the first place.
+fn least_place<Op>(entries: &[Entry<Op>], stamp: &Stamp) -> usize
+    requires stamp { IsStamp stamp.now }
+    requires stamps { All (λ e. IsStamp e.stamp) entries.now }
+    requires rising { IsRising entries.now }
+    ensures within { result ≤ length entries.now }
+    ensures before { (k : ℕ) (d : Entry Op) → k < result → IsFalse (is_below stamp.now (slice_index_or entries.now k d).stamp) }
+{
+    if entries.is_empty() {
+        return 0;
+    }
+    let last = entries.len() - 1;
+    if is_below(stamp, &entries[last].stamp) {
+        0
+    } else {
+        entries.len()
+    }
+}
+
+/// The place of a stamp by its key: the first entry whose key is greater, or the end. The end is tried first, then by binary
+/// search.
 fn place_of<Op>(entries: &[Entry<Op>], stamp: &Stamp) -> usize
     requires stamp { IsStamp stamp.now }
     requires stamps { All (λ e. IsStamp e.stamp) entries.now }
@@ -31,7 +51,7 @@ fn place_of<Op>(entries: &[Entry<Op>], stamp: &Stamp) -> usize
     ensures before { (k : ℕ) (d : Entry Op) → k < result → IsFalse (is_below stamp.now (slice_index_or entries.now k d).stamp) }
     ensures found { (d : Entry Op) → result < length entries.now → IsTrue (is_below stamp.now (slice_index_or entries.now result d).stamp) }
 {
-    let mut low = 0;
+    let mut low = least_place(entries, stamp);
     let mut high = entries.len();
     while low < high {
         let middle = low + (high - low) / 2;

@@ -33,3 +33,6 @@ returns-clause-from g c = λ e k. interleaved_from_both c.args.xs c.args.ys e (s
 pub returns-clause-stamps : goal.returns-clause-stamps
 returns-clause-stamps g c =
     all_of_both (λ e. IsStamp e.stamp) c.args.xs c.args.ys c.move_all-2.new.to (λ e k. interleaved_from_both c.args.xs c.args.ys e (subst (λ l. Contains l e) (all_in g c) k)) c.requires.left_stamps c.requires.right_stamps
+
+pub returns-clause-interleaved : goal.returns-clause-interleaved
+returns-clause-interleaved g c = all_in g c

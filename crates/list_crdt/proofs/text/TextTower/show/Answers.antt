@@ -11,7 +11,7 @@ loop-cell-preserved c =
     let same : c.deref-cell-items.result.now ≡ c.args.state.now = c.deref-cell-items.ensures.value ∙ c.state.view_is in
     let within : c.loop-cell.cell-index < length c.args.state.now = (let long = ap length same in omega (arith, long)) in
     let item = c.cell-item.result in
-    shown_more c.args.state.now c.loop-cell.cell-index item _ _ within
+    shown_more (λ (x : Cell). x.ch) c.args.state.now c.loop-cell.cell-index item _ _ within
     (c.cell-item.is ∙ ap (λ (s : List Cell). get_or s c.loop-cell.cell-index item) same) c.loop-cell.invariant c.in_ok-push.ensures.bytes
 
 pub returns : goal.returns
