@@ -6,25 +6,25 @@ use Rattle.std.proofs.lemmas.List.{get_or_past, get_or-replicate, get_or-set_oth
 use Rattle.std.proofs.Math.ListN.{length-set}
 use Rattle.vector_clock.specs.declared.clock.Clock.{Clock}
 use Rattle.vector_clock.specs.declared.stamp.Stamp.{Stamp}
-use Rattle.vector_clock.specs.Clock.{IsAtMost, IsClock, count, covers, join, max_entry, meet, with_entry, zero_clock}
+use Rattle.vector_clock.specs.Clock.{IsAtMost, IsClock, count, covers, join, max_entry, max_members, meet, with_entry, zero_clock}
 use Rattle.vector_clock.specs.Stamp.{id_of}
 use Rattle.vector_clock.specs.Sets.{AgreesWith}
 use Rattle.vector_clock.proofs.Clocks.{at_most_below, clock_by-is, count-clock_by, length-clock_by, n-clock_by}
 
--- there is nothing past the sixteenth entry
-count_past : (c : Clock) (m : ℕ) → length c.at ≡ 16 → 16 ≤ m → count c m ≡ 0
+-- there is nothing past the last possible entry
+count_past : (c : Clock) (m : ℕ) → length c.at ≡ max_members → max_members ≤ m → count c m ≡ 0
 count_past c m wide h = get_or_past c.at m 0 (omega arith)
 
-count-join : (a b : Clock) (m : ℕ) → m < 16 → count (join a b) m ≡ max (count a m) (count b m)
+count-join : (a b : Clock) (m : ℕ) → m < max_members → count (join a b) m ≡ max (count a m) (count b m)
 count-join a b m h = count-clock_by a.n (λ k. max (count a k) (count b k)) m h
 
-count-meet : (a b : Clock) (m : ℕ) → m < 16 → count (meet a b) m ≡ min (count a m) (count b m)
+count-meet : (a b : Clock) (m : ℕ) → m < max_members → count (meet a b) m ≡ min (count a m) (count b m)
 count-meet a b m h = count-clock_by a.n (λ k. min (count a k) (count b k)) m h
 
-length-join : (a b : Clock) → length (join a b).at ≡ 16
+length-join : (a b : Clock) → length (join a b).at ≡ max_members
 length-join a b = length-clock_by a.n (λ k. max (count a k) (count b k))
 
-length-meet : (a b : Clock) → length (meet a b).at ≡ 16
+length-meet : (a b : Clock) → length (meet a b).at ≡ max_members
 length-meet a b = length-clock_by a.n (λ k. min (count a k) (count b k))
 
 pub join_left : (a b : Clock) → IsClock a → IsAtMost a (join a b)
@@ -44,20 +44,20 @@ meet_right a b = at_most_below (meet a b) b (length-meet a b) (λ m l. omega (ar
 
 pub meet_greatest : (a b k : Clock) → IsClock a → IsAtMost k a → IsAtMost k b → IsAtMost k (meet a b)
 meet_greatest a b k w h i = record {
-  each = λ m. elim (cases_lt m 16) [
+  each = λ m. elim (cases_lt m max_members) [
     | inl l ↦ omega (arith, count-meet a b m l, h.each m, i.each m)
     | inr l ↦ omega (arith, count_past a m w.wide l, h.each m)
   ];
 }
 
--- a clock of n members by its first sixteen entries
-is_clock_from : (c : Clock) → 1 ≤ c.n → c.n ≤ 16 → length c.at ≡ 16 → ((m : ℕ) → m < 16 → count c m ≤ max_entry) → ((m : ℕ) → m < 16 → c.n ≤ m → count c m ≡ 0) → IsClock c
+-- a clock of n members by its entries below the limit
+is_clock_from : (c : Clock) → 1 ≤ c.n → c.n ≤ max_members → length c.at ≡ max_members → ((m : ℕ) → m < max_members → count c m ≤ max_entry) → ((m : ℕ) → m < max_members → c.n ≤ m → count c m ≡ 0) → IsClock c
 is_clock_from c some most wide bounded empty = record {
   some = some;
   most = most;
   wide = wide;
-  bounded = λ m. elim (cases_lt m 16) [ inl h ↦ bounded m h | inr h ↦ omega (arith, count_past c m wide h) ];
-  empty_past = λ m g. elim (cases_lt m 16) [ inl h ↦ empty m h g | inr h ↦ count_past c m wide h ];
+  bounded = λ m. elim (cases_lt m max_members) [ inl h ↦ bounded m h | inr h ↦ omega (arith, count_past c m wide h) ];
+  empty_past = λ m g. elim (cases_lt m max_members) [ inl h ↦ empty m h g | inr h ↦ count_past c m wide h ];
 }
 
 pub join_clock : (a b : Clock) → IsClock a → IsClock b → a.n ≡ b.n → IsClock (join a b)
@@ -74,11 +74,11 @@ meet_clock a b h i e =
     (λ m l. omega (arith, count-meet a b m l, h.bounded m, i.bounded m))
     (λ m l g. omega (arith, count-meet a b m l, h.empty_past m (omega arith), i.empty_past m (omega arith)))
 
-pub zero_is_clock : (n : ℕ) → 1 ≤ n → n ≤ 16 → IsClock (zero_clock n)
+pub zero_is_clock : (n : ℕ) → 1 ≤ n → n ≤ max_members → IsClock (zero_clock n)
 zero_is_clock n h k =
-    is_clock_from (zero_clock n) h k (length-replicate {A = ℕ} 16 0)
-    (λ m l. let e : count (zero_clock n) m ≡ 0 = get_or-replicate {A = ℕ} 16 m 0 0 l in omega arith)
-    (λ m l g. get_or-replicate {A = ℕ} 16 m 0 0 l)
+    is_clock_from (zero_clock n) h k (length-replicate {A = ℕ} max_members 0)
+    (λ m l. let e : count (zero_clock n) m ≡ 0 = get_or-replicate {A = ℕ} max_members m 0 0 l in omega arith)
+    (λ m l g. get_or-replicate {A = ℕ} max_members m 0 0 l)
 
 pub with_is_clock : (c : Clock) (i seq : ℕ) → IsClock c → i < c.n → seq ≤ max_entry → IsClock (with_entry c i seq)
 with_is_clock c i seq h l b =
@@ -103,8 +103,8 @@ at_most_antisym a b h i e j k =
     clock_by-is a.n (count a) a refl h.wide (λ m l. refl)
     ∙ sym (clock_by-is a.n (count a) b (sym e) i.wide (λ m l. omega (arith, j.each m, k.each m)))
 
-covers-join : (k l : Clock) (p : Stamp) → length k.at ≡ 16 → covers (join k l) (id_of p) ≡ true → (covers k (id_of p) ≡ true) ⊎ (covers l (id_of p) ≡ true)
-covers-join k l p wide h = elim (cases_lt p.member 16) [
+covers-join : (k l : Clock) (p : Stamp) → length k.at ≡ max_members → covers (join k l) (id_of p) ≡ true → (covers k (id_of p) ≡ true) ⊎ (covers l (id_of p) ≡ true)
+covers-join k l p wide h = elim (cases_lt p.member max_members) [
   | inl i ↦ (let e : count (join k l) p.member ≡ max (count k p.member) (count l p.member) = count-join k l p.member i in grind (arith, nat_tests))
   | inr i ↦ (let e : count (join k l) p.member ≡ 0 = count_past (join k l) p.member (length-join k l) i in grind (arith, nat_tests))
 ]

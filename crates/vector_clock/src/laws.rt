@@ -1,12 +1,21 @@
-ghost use Rattle.std.specs.Prelude.{◌≡◌, ◌<◌, ◌≤◌, ◌⊎◌, IsTrue, IsFalse, List, ℕ};
+ghost use Rattle.std.specs.Prelude.{◌≡◌, ◌<◌, ◌≤◌, ◌⊎◌, ◌↔◌, IsTrue, IsFalse, List, ℕ};
+ghost use Rattle.std.specs.declared.cmp.Ordering.TheVariants.{Less};
 ghost use Rattle.std.specs.List.{Contains};
 ghost use Rattle.vector_clock.specs.declared.clock.Clock.{Clock};
 ghost use Rattle.vector_clock.specs.declared.stamp.Stamp.{Stamp};
-ghost use Rattle.vector_clock.specs.Clock.{IsAtMost, IsClock, join, max_entry, meet, with_entry, zero_clock};
+ghost use Rattle.vector_clock.specs.declared.stamp.Key.{Key};
+ghost use Rattle.vector_clock.specs.Clock.{IsAtMost, IsClock, join, max_entry, max_members, meet, with_entry, zero_clock};
 ghost use Rattle.vector_clock.specs.Sets.{AgreesWith, IsHonest};
-ghost use Rattle.vector_clock.specs.Stamp.{IsAfter, is_before, is_below, same_id};
+ghost use Rattle.vector_clock.specs.Stamp.{IsAfter, is_before, is_below, is_less, same_id};
 
-/// The canonical order: strict, total on operations of different names, and each operation comes after those that it knew of.
+use crate::stamp::Key;
+
+/// Keys are compared by sum, then by member, then by sequence number.
+pub fn key_order()
+    ensures { (a b : Key) → (⟦<Key as Ord>⟧.cmp a b ≡ Less) ↔ IsTrue (is_less a b) }
+{}
+
+/// The canonical order: strict, total on operations of different ids, and each operation comes after those that it knew of.
 pub fn canonical_order()
     ensures asymmetric { (a b : Stamp) → IsTrue (is_below a b) → IsFalse (is_below b a) }
     ensures transitive { (a b c : Stamp) → IsTrue (is_below a b) → IsTrue (is_below b c) → IsTrue (is_below a c) }
@@ -25,7 +34,7 @@ pub fn causal_order<X>()
 
 /// Each way to make a clock gives one that keeps the limits of clocks.
 pub fn made_clocks()
-    ensures zero { (n : ℕ) → 1 ≤ n → n ≤ 16 → IsClock (zero_clock n) }
+    ensures zero { (n : ℕ) → 1 ≤ n → n ≤ max_members → IsClock (zero_clock n) }
     ensures with { (c : Clock) (m seq : ℕ) → IsClock c → m < c.n → seq ≤ max_entry → IsClock (with_entry c m seq) }
     ensures join { (a b : Clock) → IsClock a → IsClock b → a.n ≡ b.n → IsClock (join a b) }
     ensures meet { (a b : Clock) → IsClock a → IsClock b → a.n ≡ b.n → IsClock (meet a b) }
