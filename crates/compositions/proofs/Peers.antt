@@ -13,10 +13,11 @@ use Rattle.crdt_laws.specs.Present.{apply_all}
 use Rattle.crdt_laws.specs.Sets.{AreApart, canonical, place}
 use Rattle.crdt_laws.specs.Tower.{Meaning, IsLawful, IsIssued, Lacks}
 use Rattle.crdt_laws.proofs.Acts.{lacks-apply}
-use Rattle.crdt_laws.proofs.Filters.{all-place, all_weaker}
+use Rattle.crdt_laws.proofs.Filters.{all-place}
 use Rattle.crdt_laws.proofs.Members.{canonical_same}
 use Rattle.crdt_laws.proofs.Place.{all-canonical}
 use Rattle.compositions.specs.Peers.{ArePeers}
+use Rattle.vector_clock.proofs.Ordered.{all_weaker}
 
 -- any two elements, at different places
 module _ {X : Type 0} (R : X → X → Type 0) where

@@ -9,9 +9,10 @@ use Rattle.vector_clock.proofs.Causal.{honest_below}
 use Rattle.vector_clock.proofs.Keys.{key_asym, key_behind}
 use Rattle.crdt_laws.specs.declared.small.Entry.{Entry}
 use Rattle.crdt_laws.specs.Sets.{IsCausal, IsHonest, canonical, place}
-use Rattle.crdt_laws.proofs.Filters.{all-place, all_weaker}
+use Rattle.crdt_laws.proofs.Filters.{all-place}
 use Rattle.crdt_laws.proofs.Members.{each}
 use Rattle.crdt_laws.proofs.Place.{all-canonical}
+use Rattle.vector_clock.proofs.Ordered.{all_weaker}
 
 -- no later key is less
 abbrev IsOrdered : {Op : Type 0} → List (Entry Op) → Type 0

@@ -4,20 +4,19 @@ use Rattle.std.specs.List.{All, AllByRecursion}
 use Rattle.std.proofs.lemmas.Result.{on_ok_weaker}
 use Rattle.std.proofs.lemmas.Bool.{true_from_ne_false}
 use Rattle.std.proofs.lemmas.List.Elements.{All-drop, Contains-append_left, Contains-append_right}
-use Rattle.vector_clock.specs.declared.stamp.Key.{Key}
 use Rattle.vector_clock.specs.declared.stamp.Stamp.{Stamp}
-use Rattle.vector_clock.specs.Stamp.{IsStamp, is_below, is_less, key_of, same_id}
+use Rattle.vector_clock.specs.Stamp.{IsStamp, is_below, same_id}
 use Rattle.vector_clock.proofs.Keys.{key_either, key_level, key_trans}
 use Rattle.crdt_laws.specs.declared.small.Entry.{Entry}
-use Rattle.crdt_laws.specs.Sets.{AreApart, IsHonest, IsRising, canonical, together}
+use Rattle.crdt_laws.specs.Sets.{AreApart, IsHonest, IsRising, canonical, union}
 use Rattle.crdt_laws.specs.Interleaved.{interleaved}
-use Rattle.crdt_laws.proofs.Filters.{all_weaker}
 use Rattle.vector_clock.proofs.Keys.{same_id_sym}
 use Rattle.std.proofs.lemmas.Bool.{both_ways}
 use Rattle.std.proofs.lemmas.List.Elements.{Contains-append_cases}
 use Rattle.crdt_laws.proofs.Place.{rising-canonical}
 use Rattle.crdt_laws.proofs.Members.{Contains-canonical, Contains-cases, Contains-front, Contains-more, at_member, each, rising_same}
-use Rattle.crdt_laws.proofs.Both.{honest_part, rising_apart, together_elements, together_rises}
+use Rattle.crdt_laws.proofs.Both.{honest_part, rising_apart, union_elements, union_rises}
+use Rattle.vector_clock.proofs.Ordered.{all_weaker}
 
 pub interleaved-none : {Op : Type 0} (xs : List (Entry Op)) → interleaved xs [] ≡ xs
 interleaved-none [] = refl
@@ -95,14 +94,14 @@ within {Op} (x ∷ xs) (y ∷ ys) m =
     more a l zs h = all_weaker (Contains l) (Contains (a ∷ l)) (λ z c. Contains-more a l z c) zs h
 
 -- on an honest union the interleaved list is the canonical list of both
-pub interleaved_together : {Op : Type 0} (xs ys : List (Entry Op)) → IsRising xs → IsRising ys → IsHonest (xs ++ ys) → interleaved xs ys ≡ together xs ys
-interleaved_together xs ys r s h =
+pub interleaved_union : {Op : Type 0} (xs ys : List (Entry Op)) → IsRising xs → IsRising ys → IsHonest (xs ++ ys) → interleaved xs ys ≡ union xs ys
+interleaved_union xs ys r s h =
     let left : AreApart xs = rising_apart xs (honest_part (xs ++ ys) xs h (Contains-append_left xs ys)) r in
     let right : AreApart ys = rising_apart ys (honest_part (xs ++ ys) ys h (Contains-append_right xs ys)) s in
     let all = within xs ys (λ a b i j. h.same a b (Contains-append_left xs ys a i) (Contains-append_right xs ys b j)) in
-    rising_same (interleaved xs ys) (together xs ys) (rising-interleaved xs ys r s) (together_rises xs ys left right) (λ e. (
-      λ c. (together_elements xs ys h e).1 (interleaved_from_both xs ys e c),
-      λ c. elim ((together_elements xs ys h e).0 c) [
+    rising_same (interleaved xs ys) (union xs ys) (rising-interleaved xs ys r s) (union_rises xs ys left right) (λ e. (
+      λ c. (union_elements xs ys h e).1 (interleaved_from_both xs ys e c),
+      λ c. elim ((union_elements xs ys h e).0 c) [
         | inl i ↦ at_member (Contains (interleaved xs ys)) xs e all.0 i
         | inr i ↦ at_member (Contains (interleaved xs ys)) ys e all.1 i
       ],
@@ -144,42 +143,31 @@ first_and_rest : {X : Type 0} (l : List X) (x : X) → 0 < length l → x ≡ ge
 first_and_rest [] x h e = absurd (omega arith)
 first_and_rest (a ∷ l) x h e = let f : x ≡ a = e in ap (λ z. z ∷ l) (sym f)
 
-below_by_keys : (x y : Stamp) (j k : Key) → j ≡ key_of x → k ≡ key_of y → is_below x y ≡ is_less j k
-unfolding is_below
-below_by_keys x y j k e f = ap₂ is_less (sym e) (sym f)
-
 -- what two lists begin with
-pub record Fronts {Op : Type 0} (xs ys : List (Entry Op)) (x y : Entry Op) (j k : Key) : Type 0 where
+pub record Fronts {Op : Type 0} (xs ys : List (Entry Op)) (x y : Entry Op) : Type 0 where
   pub left : xs ≡ x ∷ drop 1 xs
   pub right : ys ≡ y ∷ drop 1 ys
-  pub first : j ≡ key_of x.stamp
-  pub second : k ≡ key_of y.stamp
 
-pub fronts : {Op : Type 0} (xs ys : List (Entry Op)) (x y : Entry Op) (j k : Key) → 0 < length xs → 0 < length ys → x ≡ get_or xs 0 x → y ≡ get_or ys 0 y → j ≡ key_of x.stamp → k ≡ key_of y.stamp → Fronts xs ys x y j k
-fronts xs ys x y j k m n e f h i = record { left = first_and_rest xs x m e; right = first_and_rest ys y n f; first = h; second = i }
+pub fronts : {Op : Type 0} (xs ys : List (Entry Op)) (x y : Entry Op) → 0 < length xs → 0 < length ys → x ≡ get_or xs 0 x → y ≡ get_or ys 0 y → Fronts xs ys x y
+fronts xs ys x y m n e f = record { left = first_and_rest xs x m e; right = first_and_rest ys y n f }
 
 moved : {Op : Type 0} (j k l m n : List (Entry Op)) (x : Entry Op) → k ≡ j ++ x ∷ [] → l ≡ m → n ≡ x ∷ m → k ++ l ≡ j ++ n
 moved j k l m n x e f h = ap (λ z. z ++ l) e ∙ append_assoc j (x ∷ []) l ∙ ap (λ z. j ++ z) (ap (λ z. x ∷ z) f ∙ sym h)
 
-left_step : {Op : Type 0} (to to' : List (Entry Op)) (xs ys xs' : List (Entry Op)) (x y : Entry Op) (j k : Key) → Fronts xs ys x y j k → is_less j k ≡ true → xs' ≡ drop 1 xs → to' ≡ to ++ x ∷ [] → to' ++ interleaved xs' ys ≡ to ++ interleaved xs ys
-left_step to to' xs ys xs' x y j k f h e m =
-    let b : is_below x.stamp y.stamp ≡ true = below_by_keys x.stamp y.stamp j k f.first f.second ∙ h in
+left_step : {Op : Type 0} (to to' : List (Entry Op)) (xs ys xs' : List (Entry Op)) (x y : Entry Op) → Fronts xs ys x y → is_below x.stamp y.stamp ≡ true → xs' ≡ drop 1 xs → to' ≡ to ++ x ∷ [] → to' ++ interleaved xs' ys ≡ to ++ interleaved xs ys
+left_step to to' xs ys xs' x y f h e m =
     let next : interleaved (x ∷ drop 1 xs) (y ∷ drop 1 ys) ≡ x ∷ interleaved (drop 1 xs) (y ∷ drop 1 ys) = cc in
     moved to to' (interleaved xs' ys) (interleaved (drop 1 xs) ys) (interleaved xs ys) x m (ap (λ l. interleaved l ys) e)
     (ap₂ interleaved f.left f.right ∙ next ∙ ap (λ l. x ∷ interleaved (drop 1 xs) l) (sym f.right))
 
-right_step : {Op : Type 0} (to to' : List (Entry Op)) (xs ys ys' : List (Entry Op)) (x y : Entry Op) (j k : Key) → Fronts xs ys x y j k → is_less j k ≡ false → is_less k j ≡ true → ys' ≡ drop 1 ys → to' ≡ to ++ y ∷ [] → to' ++ interleaved xs ys' ≡ to ++ interleaved xs ys
-right_step to to' xs ys ys' x y j k f h i e m =
-    let a : is_below x.stamp y.stamp ≡ false = below_by_keys x.stamp y.stamp j k f.first f.second ∙ h in
-    let b : is_below y.stamp x.stamp ≡ true = below_by_keys y.stamp x.stamp k j f.second f.first ∙ i in
+right_step : {Op : Type 0} (to to' : List (Entry Op)) (xs ys ys' : List (Entry Op)) (x y : Entry Op) → Fronts xs ys x y → is_below x.stamp y.stamp ≡ false → is_below y.stamp x.stamp ≡ true → ys' ≡ drop 1 ys → to' ≡ to ++ y ∷ [] → to' ++ interleaved xs ys' ≡ to ++ interleaved xs ys
+right_step to to' xs ys ys' x y f h i e m =
     let next : interleaved (x ∷ drop 1 xs) (y ∷ drop 1 ys) ≡ y ∷ interleaved (x ∷ drop 1 xs) (drop 1 ys) = cc in
     moved to to' (interleaved xs ys') (interleaved xs (drop 1 ys)) (interleaved xs ys) y m (ap (interleaved xs) e)
     (ap₂ interleaved f.left f.right ∙ next ∙ ap (λ l. y ∷ interleaved l (drop 1 ys)) (sym f.left))
 
-level_step : {Op : Type 0} (to to' : List (Entry Op)) (xs ys xs' ys' : List (Entry Op)) (x y : Entry Op) (j k : Key) → Fronts xs ys x y j k → is_less j k ≡ false → is_less k j ≡ false → xs' ≡ drop 1 xs → ys' ≡ drop 1 ys → to' ≡ to ++ x ∷ [] → to' ++ interleaved xs' ys' ≡ to ++ interleaved xs ys
-level_step to to' xs ys xs' ys' x y j k f h i d e m =
-    let a : is_below x.stamp y.stamp ≡ false = below_by_keys x.stamp y.stamp j k f.first f.second ∙ h in
-    let b : is_below y.stamp x.stamp ≡ false = below_by_keys y.stamp x.stamp k j f.second f.first ∙ i in
+level_step : {Op : Type 0} (to to' : List (Entry Op)) (xs ys xs' ys' : List (Entry Op)) (x y : Entry Op) → Fronts xs ys x y → is_below x.stamp y.stamp ≡ false → is_below y.stamp x.stamp ≡ false → xs' ≡ drop 1 xs → ys' ≡ drop 1 ys → to' ≡ to ++ x ∷ [] → to' ++ interleaved xs' ys' ≡ to ++ interleaved xs ys
+level_step to to' xs ys xs' ys' x y f h i d e m =
     let next : interleaved (x ∷ drop 1 xs) (y ∷ drop 1 ys) ≡ x ∷ interleaved (drop 1 xs) (drop 1 ys) = cc in
     moved to to' (interleaved xs' ys') (interleaved (drop 1 xs) (drop 1 ys)) (interleaved xs ys) x m (ap₂ interleaved d e)
     (ap₂ interleaved f.left f.right ∙ next)
@@ -193,14 +181,14 @@ pub emptied : {X : Type 0} (l : List X) → length l ≡ 0 → l ≡ []
 emptied [] h = refl
 emptied (x ∷ l) h = absurd (omega arith)
 
-pub left_ok : {T E Op : Type 0} (r : Result T E) (to to' xs ys xs' : List (Entry Op)) (x y : Entry Op) (j k : Key) → Fronts xs ys x y j k → is_less j k ≡ true → xs' ≡ drop 1 xs → OnOk r (to' ≡ to ++ x ∷ []) → OnOk r (to' ++ interleaved xs' ys ≡ to ++ interleaved xs ys)
-left_ok r to to' xs ys xs' x y j k f h e m = on_ok_weaker r (left_step to to' xs ys xs' x y j k f h e) m
+pub left_ok : {T E Op : Type 0} (r : Result T E) (to to' xs ys xs' : List (Entry Op)) (x y : Entry Op) → Fronts xs ys x y → is_below x.stamp y.stamp ≡ true → xs' ≡ drop 1 xs → OnOk r (to' ≡ to ++ x ∷ []) → OnOk r (to' ++ interleaved xs' ys ≡ to ++ interleaved xs ys)
+left_ok r to to' xs ys xs' x y f h e m = on_ok_weaker r (left_step to to' xs ys xs' x y f h e) m
 
-pub right_ok : {T E Op : Type 0} (r : Result T E) (to to' xs ys ys' : List (Entry Op)) (x y : Entry Op) (j k : Key) → Fronts xs ys x y j k → is_less j k ≡ false → is_less k j ≡ true → ys' ≡ drop 1 ys → OnOk r (to' ≡ to ++ y ∷ []) → OnOk r (to' ++ interleaved xs ys' ≡ to ++ interleaved xs ys)
-right_ok r to to' xs ys ys' x y j k f h i e m = on_ok_weaker r (right_step to to' xs ys ys' x y j k f h i e) m
+pub right_ok : {T E Op : Type 0} (r : Result T E) (to to' xs ys ys' : List (Entry Op)) (x y : Entry Op) → Fronts xs ys x y → is_below x.stamp y.stamp ≡ false → is_below y.stamp x.stamp ≡ true → ys' ≡ drop 1 ys → OnOk r (to' ≡ to ++ y ∷ []) → OnOk r (to' ++ interleaved xs ys' ≡ to ++ interleaved xs ys)
+right_ok r to to' xs ys ys' x y f h i e m = on_ok_weaker r (right_step to to' xs ys ys' x y f h i e) m
 
-pub level_ok : {T E Op : Type 0} (r : Result T E) (to to' xs ys xs' ys' : List (Entry Op)) (x y : Entry Op) (j k : Key) → Fronts xs ys x y j k → is_less j k ≡ false → is_less k j ≡ false → xs' ≡ drop 1 xs → ys' ≡ drop 1 ys → OnOk r (to' ≡ to ++ x ∷ []) → OnOk r (to' ++ interleaved xs' ys' ≡ to ++ interleaved xs ys)
-level_ok r to to' xs ys xs' ys' x y j k f h i d e m = on_ok_weaker r (level_step to to' xs ys xs' ys' x y j k f h i d e) m
+pub level_ok : {T E Op : Type 0} (r : Result T E) (to to' xs ys xs' ys' : List (Entry Op)) (x y : Entry Op) → Fronts xs ys x y → is_below x.stamp y.stamp ≡ false → is_below y.stamp x.stamp ≡ false → xs' ≡ drop 1 xs → ys' ≡ drop 1 ys → OnOk r (to' ≡ to ++ x ∷ []) → OnOk r (to' ++ interleaved xs' ys' ≡ to ++ interleaved xs ys)
+level_ok r to to' xs ys xs' ys' x y f h i d e m = on_ok_weaker r (level_step to to' xs ys xs' ys' x y f h i d e) m
 
 pub stamps_left : {Op : Type 0} (xs ys : List (Entry Op)) → ys ≡ drop 1 xs → All (λ e. IsStamp e.stamp) xs → All (λ e. IsStamp e.stamp) ys
 stamps_left {Op} xs ys e h = subst (λ (l : List (Entry Op)). All (λ e. IsStamp e.stamp) l) (sym e) (All-drop (λ (e : Entry Op). IsStamp e.stamp) 1 xs h)

@@ -5,7 +5,8 @@ use Rattle.std.proofs.lemmas.List.Sums.{sum_by-cons}
 use Rattle.vector_clock.specs.declared.stamp.Stamp.{Stamp}
 use Rattle.vector_clock.specs.Stamp.{key_of}
 use Rattle.crdt_laws.specs.Keys.{IsKeyOf}
-use Rattle.crdt_laws.specs.Tower.{IsStampOf, IsWithin, max_seq}
+use Rattle.crdt_laws.specs.Tower.{IsStampOf, IsWithin}
+use Rattle.vector_clock.specs.Clock.{max_seq}
 
 -- a sum of entries of which only the first n are not 0
 sum_bounded : (n bound : ℕ) (xs : List ℕ) → ((i : ℕ) → slice_index xs i ≤ bound) → ((i : ℕ) → n ≤ i → slice_index xs i ≡ 0) → sum xs ≤ n * bound

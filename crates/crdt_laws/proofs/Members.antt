@@ -7,8 +7,8 @@ use Rattle.vector_clock.specs.Stamp.{is_below}
 use Rattle.vector_clock.proofs.Keys.{key_asym, key_irreflexive}
 use Rattle.crdt_laws.specs.declared.small.Entry.{Entry}
 use Rattle.crdt_laws.specs.Sets.{place, canonical, AreApart, IsRising}
-use Rattle.crdt_laws.proofs.Filters.{all_weaker}
 use Rattle.crdt_laws.proofs.Place.{rising-canonical, all-canonical}
+use Rattle.vector_clock.proofs.Ordered.{all_weaker}
 
 pub each : {X : Type 0} (xs : List X) → AllByRecursion (Contains xs) xs
 each xs = recursion_from_All (Contains xs) xs (All-contains_itself xs)

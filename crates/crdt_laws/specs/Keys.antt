@@ -1,7 +1,7 @@
 -- Keys that the operations of a document may have.
 use Rattle.std.specs.Prelude.{ℕ, ◌*◌, ◌<◌, ◌≤◌}
 use Rattle.vector_clock.specs.declared.stamp.Key.{Key}
-use Rattle.crdt_laws.specs.Tower.{max_seq}
+use Rattle.vector_clock.specs.Clock.{max_seq}
 
 -- a key that a valid operation of a document with n members may have
 pub record IsKeyOf (n : ℕ) (k : Key) : Type 0 where

@@ -3,7 +3,7 @@ use Rattle.std.specs.Prelude.{ℕ, List, [], ◌∷◌, ◌++◌, Bool, ◌&&◌
 use Rattle.std.specs.List.{All, AllByRecursion, AllPairs, filter, list_all, list_any, range_with_len}
 use Rattle.vector_clock.specs.declared.clock.Clock.{Clock}
 use Rattle.vector_clock.specs.declared.clock.Id.{Id}
-use Rattle.vector_clock.specs.Clock.{count}
+use Rattle.vector_clock.specs.Clock.{count, max_members}
 use Rattle.vector_clock.specs.Stamp.{id_of, is_before, is_below, same_id}
 use Rattle.vector_clock.specs.Sets as stamped
 use Rattle.crdt_laws.specs.declared.small.Entry.{Entry}
@@ -20,38 +20,43 @@ IsHonest xs = stamped.IsHonest (λ e. e.stamp) xs
 abbrev pub IsClosed : {Op : Type 0} → List (Entry Op) → Type 0
 IsClosed xs = stamped.IsClosed (λ e. e.stamp) xs
 
+-- no id stands twice
+abbrev pub AreApart : {Op : Type 0} → List (Entry Op) → Type 0
+AreApart xs = stamped.AreApart (λ e. e.stamp) xs
+
+-- strictly rising keys
+abbrev pub IsRising : {Op : Type 0} → List (Entry Op) → Type 0
+IsRising xs = stamped.IsRising (λ e. e.stamp) xs
+
 -- xs with x in its place by key
 abbrev pub place : {Op : Type 0} → Entry Op → List (Entry Op) → List (Entry Op)
-place x [] = x ∷ []
-place x (y ∷ ys) = if is_below x.stamp y.stamp then x ∷ y ∷ ys else y ∷ place x ys
+place x xs = stamped.place (λ e. e.stamp) x xs
+
+-- whether the clock does not cover the operation
+abbrev pub is_beyond : {Op : Type 0} → Clock → Entry Op → Bool
+is_beyond k e = stamped.is_beyond (λ e. e.stamp) k e
+
+-- the operations that the clock does not cover
+abbrev pub beyond : {Op : Type 0} → Clock → List (Entry Op) → List (Entry Op)
+beyond k xs = stamped.beyond (λ e. e.stamp) k xs
 
 -- the canonical list of a set, given in any order
 abbrev pub canonical : {Op : Type 0} → List (Entry Op) → List (Entry Op)
 canonical [] = []
 canonical (x ∷ xs) = place x (canonical xs)
 
--- no name stands twice
-abbrev pub AreApart : {Op : Type 0} → List (Entry Op) → Type 0
-AreApart [] = Unit {0}
-AreApart (a ∷ xs) = AllByRecursion (λ b. IsFalse (same_id a.stamp b.stamp)) xs × AreApart xs
-
--- strictly rising keys
-abbrev pub IsRising : {Op : Type 0} → List (Entry Op) → Type 0
-IsRising [] = Unit {0}
-IsRising (a ∷ xs) = AllByRecursion (λ b. IsTrue (is_below a.stamp b.stamp)) xs × IsRising xs
-
 -- an operation that is before another stands before it
 abbrev pub IsCausal : {Op : Type 0} → List (Entry Op) → Type 0
 IsCausal xs = AllPairs (λ a b. IsFalse (is_before b.stamp a.stamp)) xs
 
--- whether an operation of the set has this name
-abbrev pub has_name : {Op : Type 0} → List (Entry Op) → Id → Bool
-has_name xs i = list_any (λ e. (e.stamp.member == i.member) && (count e.stamp.clock e.stamp.member == i.seq)) xs
+-- whether an operation of the set has this id
+abbrev pub has_id : {Op : Type 0} → List (Entry Op) → Id → Bool
+has_id xs i = list_any (λ e. (e.stamp.member == i.member) && (count e.stamp.clock e.stamp.member == i.seq)) xs
 
--- whether each name that the clock covers is that of an operation of the set
+-- whether each id that the clock covers is that of an operation of the set
 unfoldable pub has_all_of : {Op : Type 0} → List (Entry Op) → Clock → Bool
-has_all_of xs k = list_all (λ m. list_all (λ s. has_name xs (record { member = m; seq = s })) (range_with_len 1 (count k m))) (range_with_len 0 16)
+has_all_of xs k = list_all (λ m. list_all (λ s. has_id xs (record { member = m; seq = s })) (range_with_len 1 (count k m))) (range_with_len 0 max_members)
 
--- the operations of two sets, each name once, by key
-unfoldable pub together : {Op : Type 0} → List (Entry Op) → List (Entry Op) → List (Entry Op)
-together xs ys = canonical (xs ++ filter (λ e. not (has_name xs (id_of e.stamp))) ys)
+-- the union of two sets: the operations of both, each id once, by key
+unfoldable pub union : {Op : Type 0} → List (Entry Op) → List (Entry Op) → List (Entry Op)
+union xs ys = canonical (xs ++ filter (λ e. not (has_id xs (id_of e.stamp))) ys)

@@ -4,7 +4,7 @@ ghost use Rattle.vector_clock.specs.Clock.{IsClock, count};
 ghost use Rattle.vector_clock.specs.Stamp.{IsStamp};
 ghost use Rattle.crdt_laws.specs.Sets.{IsRising};
 
-use crate::{Entry, List, NoMemory, Ops, Txt, together};
+use crate::{Entry, List, NoMemory, Ops, Txt, union};
 use std::alloc::Global;
 use std::test::Fail;
 use vector_clock::{Clock, Stamp};
@@ -46,17 +46,17 @@ fn joins_sets_by_key(rt: HostRuntime) -> Result<(), Fail> {
         member: 0,
         clock: knows(2, 1),
     };
-    let ends = together(
+    let ends = union(
         rt.alloc(),
         alone(rt.alloc(), after, 3)?,
         alone(rt.alloc(), first, 1)?,
     )?;
-    let starts = together(
+    let starts = union(
         rt.alloc(),
         alone(rt.alloc(), first, 1)?,
         alone(rt.alloc(), beside, 2)?,
     )?;
-    let all = together(rt.alloc(), ends, starts)?;
+    let all = union(rt.alloc(), ends, starts)?;
     let mut ops = List::new(rt.alloc());
     for Entry { stamp: _, op } in all.as_slice() {
         ops.push(*op)?;

@@ -5,12 +5,12 @@ use Rattle.std.proofs.lemmas.Bool.{cases_eq, false≢true}
 use Rattle.std.proofs.lemmas.List.{append-nil}
 use Rattle.std.proofs.lemmas.List.Elements.{All-contains, All-nil, Contains-append_left}
 use Rattle.vector_clock.specs.declared.stamp.Stamp.{Stamp}
-use Rattle.vector_clock.specs.Clock.{count}
+use Rattle.vector_clock.specs.Clock.{count, max_members, max_seq}
 use Rattle.crdt_laws.specs.declared.small.Entry.{Entry}
 use Rattle.crdt_laws.specs.Entry.{entry}
 use Rattle.crdt_laws.specs.Present.{document}
 use Rattle.crdt_laws.specs.Sets.{IsClosed}
-use Rattle.crdt_laws.specs.Tower.{IsIssued, IsStampOf, IsWithin, Meaning, max_seq}
+use Rattle.crdt_laws.specs.Tower.{IsIssued, IsStampOf, IsWithin, Meaning}
 use Rattle.crdt_laws.proofs.Members.{Contains-cases}
 use Rattle.replica_model.specs.Family.{MayMerge, Thing, replica, batch, replicas, operations}
 use Rattle.replica_model.specs.Replica.{Replica, Batch, edited, exported, members, merged, new_replica, next_stamp, version}
@@ -47,7 +47,7 @@ unfolding exported
 doc-exported r to = refl
 
 -- the operations of a version and one more
-pub next_below : {Op : Type 0} (r : Replica Op) (k : ℕ) → r.me < 16 → ((e : Entry Op) → Contains r.delivered e → (i : ℕ) → count e.stamp.clock i ≤ k)
+pub next_below : {Op : Type 0} (r : Replica Op) (k : ℕ) → r.me < max_members → ((e : Entry Op) → Contains r.delivered e → (i : ℕ) → count e.stamp.clock i ≤ k)
     → (i : ℕ) → count (next_stamp r).clock i ≤ k + 1
 next_below r k within h i =
     let v = version (members r) r.delivered in
@@ -145,9 +145,9 @@ module _ {State Op : Type 0} (m : Meaning State Op) (made : Verb → ℕ → Op)
       let family : IsTrueFamily m pair_members all = subst (IsTrueFamily m pair_members) place.now old.honest.family in
       let counts : Counts k all = subst (Counts k) place.now old.counts in
       let here = split_it xs ys (replica r) in
-      let few : pair_members ≤ 16 = omega arith in
+      let few : pair_members ≤ max_members = omega arith in
       let may = may_edit m pair_members all family.honest few r here in
-      let within : r.me < 16 = (let l = may.sound.member in omega arith) in
+      let within : r.me < max_members = (let l = may.sound.member in omega arith) in
       let next = next_below r k within (λ e c. counts e (replica_inside m pair_members all family.honest r here e (Contains-append_left r.delivered r.waiting e c))) in
       let limit : IsWithin (next_stamp r) = record { each = λ i. let h = next i in omega (arith, room) } in
       let stamp = next_stamp_is (operations all) pair_members r may limit in
@@ -341,9 +341,9 @@ next_stamp_at m k lab keeps room name r h =
     let ts = things lab in
     let family = keeps.honest.family.honest in
     let here = replica_there m lab keeps.honest name r h in
-    let few : pair_members ≤ 16 = omega arith in
+    let few : pair_members ≤ max_members = omega arith in
     let may = may_edit m pair_members ts family few r here in
-    let within : r.me < 16 = (let l = may.sound.member in omega arith) in
+    let within : r.me < max_members = (let l = may.sound.member in omega arith) in
     let next = next_below r k within (λ e c. keeps.counts e (replica_inside m pair_members ts family r here e (Contains-append_left r.delivered r.waiting e c))) in
     let limit : IsWithin (next_stamp r) = record { each = λ i. let b = next i in omega (arith, room) } in
     (next_stamp_is (operations ts) pair_members r may limit, limit)

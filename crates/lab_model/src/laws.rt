@@ -1,9 +1,9 @@
 //! What whole runs keep. Each law is the contract of a function that does nothing.
 ghost use Rattle.std.specs.Prelude.{◌≡◌, ℕ, ◌+◌, ◌≤◌, List, [], ◌++◌, ◌↔◌, IsTrue, Some, length};
+ghost use Rattle.vector_clock.specs.Clock.{max_seq};
 ghost use Rattle.std.specs.List.{Contains};
 ghost use Rattle.crdt_laws.specs.declared.small.Entry.{Entry};
 ghost use Rattle.crdt_laws.specs.Sets.{IsClosed};
-ghost use Rattle.crdt_laws.specs.Tower.{max_seq};
 ghost use Rattle.replica_model.specs.Replica.{Replica, Batch};
 ghost use Rattle.replica_model.specs.Family.{MayMerge, replica, batch};
 ghost use Rattle.lab_model.specs.declared.command.Command.TheVariants.{Show};

@@ -2,9 +2,9 @@
 use Rattle.std.specs.Prelude.{ℕ, zero, suc, ◌+◌, ◌-◌, ◌<◌, ◌≤◌, nat_le, ◌==◌, if◌then◌else◌}
 use Rattle.std.specs.Prelude.{List, [], ◌∷◌, Option, Some, None, IfSome}
 use Rattle.std.specs.Ordering.{is_eq}
-use Rattle.crdt_laws.specs.Tower.{max_seq}
 use Rattle.list_crdt.specs.declared.position.Step.{Step}
 use Rattle.list_crdt.specs.Position.{pad, step_cmp, IsBefore, IsPosition}
+use Rattle.vector_clock.specs.Clock.{max_seq}
 
 -- for the operation of this member with this sequence number
 module _ (member seq : ℕ) where

@@ -5,8 +5,8 @@ use Rattle.std.specs.declared.cmp.Ordering.TheVariants.{Less}
 use Rattle.std.specs.Ordering.{ordering_then, nat_cmp}
 use Rattle.std.specs.Cmp.Lexicographic.{slice_cmp}
 use Rattle.vector_clock.specs.declared.clock.Id.{Id}
-use Rattle.crdt_laws.specs.Tower.{max_seq}
 use Rattle.list_crdt.specs.declared.position.Step.{Step}
+use Rattle.vector_clock.specs.Clock.{max_seq}
 
 -- steps are compared by digit, then by member, then by sequence number
 abbrev pub step_cmp : Step → Step → Ordering

@@ -10,7 +10,7 @@ use Rattle.vector_clock.specs.declared.clock.Id.{Id}
 use Rattle.vector_clock.specs.declared.stamp.Stamp.{Stamp}
 use Rattle.vector_clock.specs.Clock.{IsAtMost, covers}
 use Rattle.vector_clock.specs.Stamp.{id_of, are_concurrent, is_before}
-use Rattle.vector_clock.proofs.Keys.{concurrent_other, concurrent_sym, other_names}
+use Rattle.vector_clock.proofs.Keys.{concurrent_other, concurrent_sym, other_ids}
 use Rattle.crdt_laws.specs.Tower.{IsLawful, IsIssued, IsWithin, MaySwap}
 use Rattle.list_crdt.specs.declared.position.Step.{Step}
 use Rattle.list_crdt.specs.declared.text.Cell.{Cell}
@@ -44,7 +44,7 @@ not_known p q h = let d = concurrent_other p q h in grind arith
 
 -- an insert is not at the position of a concurrent insert or delete
 pub other_insert : (p q : Stamp) (at as' : List Step) (ch ch' : ℕ) → are_concurrent p q ≡ true → IsInsertOf p at ch → IsInsertOf q as' ch' → at ≡ as' → ⊥
-other_insert p q at as' ch ch' c h k e = other_names p q (concurrent_other p q c) (sym k.own ∙ sym (ap maker e) ∙ h.own)
+other_insert p q at as' ch ch' c h k e = other_ids p q (concurrent_other p q c) (sym k.own ∙ sym (ap maker e) ∙ h.own)
 
 pub other_delete : (p q : Stamp) (at as' : List Step) (ch : ℕ) → are_concurrent p q ≡ true → IsInsertOf p at ch → IsDeleteOf q as' → at ≡ as' → ⊥
 other_delete p q at as' ch c h k e =

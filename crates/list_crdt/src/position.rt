@@ -6,7 +6,7 @@ use crdt_laws::{List, NoMemory};
 use std::alloc::Global;
 use std::cmp::Ordering;
 use std::marker::Model;
-use vector_clock::Id;
+use vector_clock::{Id, MAX_SEQ};
 
 /// One step of a position: a digit, and the name of the operation that it was made for. Steps are compared by digit, then by
 /// member, then by sequence number.
@@ -33,7 +33,7 @@ impl Step {
         ensures { IsTrue result ↔ NamesOperation n self.now }
     {
         let Step { digit, member, seq } = *self;
-        digit >= 1 && member < n && (1..=1_000_000).contains(&seq)
+        digit >= 1 && member < n && (1..=MAX_SEQ).contains(&seq)
     }
 
     /// Whether the step may stand before others: it is a pad, or names an operation of one of `n` members.

@@ -17,10 +17,10 @@ use Rattle.vector_clock.specs.declared.stamp.Stamp.{Stamp}
 use Rattle.vector_clock.specs.Clock.{IsAtMost, covers}
 use Rattle.vector_clock.specs.Stamp.{IsAfter, IsStamp, id_of}
 use Rattle.crdt_laws.specs.Tower.{Meaning, IsLawful, IsIssued, Agrees, Lacks, MaySwap, WasIssued}
-use Rattle.crdt_laws.proofs.Filters.{all_weaker}
 use Rattle.map_crdt.specs.declared.keyed.KeyOp.{KeyOp}
 use Rattle.map_crdt.specs.declared.keyed.KeyState.{KeyState}
 use Rattle.map_crdt.specs.Keyed.{AreRising, IsKey, IsMapOf, apply_at, at_key, byte_order, holds_any, keyed_act, keyed_meaning, members, pair, put, settle_all, state_at}
+use Rattle.vector_clock.proofs.Ordered.{all_weaker}
 
 -- the order of keys
 

@@ -13,12 +13,13 @@ use Rattle.crdt_laws.specs.declared.small.Entry.{Entry}
 use Rattle.crdt_laws.specs.Entry.{entry}
 use Rattle.crdt_laws.specs.Present.{apply_all}
 use Rattle.crdt_laws.specs.Sets.{AreApart, IsCausal, IsHonest, IsRising, canonical, place}
-use Rattle.crdt_laws.proofs.Filters.{all-place, all_true, all_weaker, rising-filter}
+use Rattle.crdt_laws.proofs.Filters.{all-place, all_true, rising-filter}
 use Rattle.crdt_laws.proofs.Members.{Contains-canonical, Contains-cases, Contains-front, Contains-more, Contains-place, at_member, each, filter_has, filter_inside, filter_passed, rising_same}
 use Rattle.crdt_laws.proofs.Place.{rising-canonical}
 use Rattle.register_crdts.specs.declared.several.Held.{Held}
 use Rattle.register_crdts.specs.Several.{AreRising, held, is_unknown, is_unseen, place_held, several_apply, several_meaning, several_show, texts_of}
 use Rattle.register_crdts.specs.SeveralLaws.{rising-apply}
+use Rattle.vector_clock.proofs.Ordered.{all_weaker}
 
 abbrev E : Type 0
 E = Entry (List ℕ)

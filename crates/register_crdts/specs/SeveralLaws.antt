@@ -10,9 +10,10 @@ use Rattle.vector_clock.specs.Clock.{IsAtMost, count}
 use Rattle.vector_clock.specs.Stamp.{is_before, is_below, same_id, are_concurrent}
 use Rattle.vector_clock.proofs.Keys.{key_asym, key_total, key_trans, concurrent_other, concurrent_sym}
 use Rattle.crdt_laws.specs.Tower.{IsLawful, IsIssued, MaySwap}
-use Rattle.crdt_laws.proofs.Filters.{all-filter, all_pass, all_weaker}
+use Rattle.crdt_laws.proofs.Filters.{all_pass}
 use Rattle.register_crdts.specs.declared.several.Held.{Held}
 use Rattle.register_crdts.specs.Several.{AreRising, IsHeldOf, IsKnownTo, IsSeveralOf, held, is_unknown, place_held, several_apply, several_meaning}
+use Rattle.vector_clock.proofs.Ordered.{all-filter, all_weaker}
 
 -- places by key
 

@@ -7,12 +7,12 @@ use Rattle.std.proofs.Common.{inl, inr, set}
 use Rattle.std.proofs.lemmas.Bool.{cases_eq}
 use Rattle.std.proofs.lemmas.List.{get_or-set_other}
 use Rattle.std.proofs.lemmas.List.{length-replicate}
-use Rattle.vector_clock.specs.Clock.{count, with_entry, zero_clock}
+use Rattle.vector_clock.specs.Clock.{count, with_entry, zero_clock, max_seq}
 use Rattle.std.specs.Str.{bytes_eq}
 use Rattle.std.proofs.lemmas.List.Elements.{All-from_recursion, recursion_from_All}
 use Rattle.std.proofs.Math.ListN.{length-set}
 use Rattle.crdt_laws.specs.declared.small.Entry.{Entry}
-use Rattle.crdt_laws.specs.Tower.{IsWithin, max_seq}
+use Rattle.crdt_laws.specs.Tower.{IsWithin}
 use Rattle.replica_model.specs.Replica.{Replica, Batch, edited, members, new_replica, next_stamp, version}
 use Rattle.replica_model.specs.Family as family
 use Rattle.replica_model.specs.Family.{Thing}

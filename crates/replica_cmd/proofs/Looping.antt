@@ -15,10 +15,10 @@ use Rattle.lab_store.specs.Stream.{Appends, AppendsPart}
 use Rattle.lab_model.specs.Honest.{AreFair, IsHonestLab, MakesValid}
 use Rattle.lab_model.specs.Lab.{Lab, lab_run, lab_step, pair_members}
 use Rattle.lab_model.proofs.Runs as model
-use Rattle.crdt_laws.specs.Tower.{max_seq}
 use Rattle.replica_cmd.specs.Number.{number_meaning, number_op, NumberOp}
 use Rattle.replica_cmd.specs.Run.{is_bad, run_refused, run_text, AreFairLines, ArePlayed, IsEnded, PutsTexts}
 use Rattle.replica_cmd.specs.Steps.{outcome, Steps}
+use Rattle.vector_clock.specs.Clock.{max_seq}
 
 -- ---- what is put
 

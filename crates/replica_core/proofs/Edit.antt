@@ -8,14 +8,14 @@ use Rattle.std.proofs.lemmas.List.Elements.{All-append, All-from_recursion, All-
 use Rattle.std.proofs.lemmas.List.Sums.{fold_push}
 use Rattle.vector_clock.specs.declared.clock.Clock.{Clock}
 use Rattle.vector_clock.specs.declared.stamp.Stamp.{Stamp}
-use Rattle.vector_clock.specs.Clock.{IsAtMost, IsClock, count, join, with_entry, zero_clock}
+use Rattle.vector_clock.specs.Clock.{IsAtMost, IsClock, count, join, with_entry, zero_clock, max_members, max_seq, max_entry}
 use Rattle.vector_clock.specs.Stamp.{is_below}
 use Rattle.vector_clock.proofs.Keys.{below_known, key_asym}
 use Rattle.crdt_laws.specs.declared.small.Entry.{Entry}
 use Rattle.crdt_laws.specs.Entry.{entry}
-use Rattle.crdt_laws.specs.Tower.{max_seq, IsStampOf, IsIssued, IsLawful, IsWithin, Meaning}
+use Rattle.crdt_laws.specs.Tower.{IsStampOf, IsIssued, IsLawful, IsWithin, Meaning}
 use Rattle.crdt_laws.specs.Sets.{AreIssued, IsRising, place}
-use Rattle.crdt_laws.proofs.Filters.{all-append, all_weaker}
+use Rattle.crdt_laws.proofs.Filters.{all-append}
 use Rattle.vector_clock.proofs.Clocks.{length-clock_by}
 use Rattle.crdt_laws.proofs.Place.{place_last}
 use Rattle.replica_model.specs.Replica.{Replica, edited, members, next_stamp, row, version}
@@ -23,6 +23,7 @@ use Rattle.replica_core.specs.Kept.{AreKept, IsKept, IsKnown, IsReplicaUpTo, IsU
 use Rattle.replica_core.specs.Rows.{IsFrom}
 use Rattle.replica_core.proofs.Bounds.{replica_up_to}
 use Rattle.replica_core.proofs.Joins.{at_most-join_left, at_most-join_right, join_above}
+use Rattle.vector_clock.proofs.Ordered.{all_weaker}
 
 -- a clock with one operation more of a member
 
@@ -51,7 +52,7 @@ clock-next n k j h l = record {
   most = h.clock.most;
   wide = length-set k.at j (count k j + 1) ∙ h.clock.wide;
   bounded = λ i. elim (cases_eq i j) [
-    | inl e ↦ (let o = own_count n k j h l in let w = h.within j in subst (λ m. count (next k j) m ≤ 1001024) (sym e) (omega arith))
+    | inl e ↦ (let o = own_count n k j h l in let w = h.within j in subst (λ m. count (next k j) m ≤ max_entry) (sym e) (omega arith))
     | inr e ↦ (let o = other_count k j i e in let w = h.within i in omega arith)
   ];
   empty_past = λ i p. elim (cases_eq i j) [
@@ -94,11 +95,11 @@ room_for_next r s l rows own is k less u =
     subst IsWithin (sym is) (record { each = λ i. omega (arith, next_up.each i) })
 
 -- the version knows what its operations know
-fold_knows : {Op : Type 0} (n : ℕ) (xs : List (Entry Op)) (k : Clock) → length k.at ≡ 16 → AllByRecursion (IsFrom n) xs → IsAtMost k (fold (λ j e. join j e.stamp.clock) k xs) × AllByRecursion (λ d. IsAtMost d.stamp.clock (fold (λ j e. join j e.stamp.clock) k xs)) xs
+fold_knows : {Op : Type 0} (n : ℕ) (xs : List (Entry Op)) (k : Clock) → length k.at ≡ max_members → AllByRecursion (IsFrom n) xs → IsAtMost k (fold (λ j e. join j e.stamp.clock) k xs) × AllByRecursion (λ d. IsAtMost d.stamp.clock (fold (λ j e. join j e.stamp.clock) k xs)) xs
 fold_knows n [] k wide all = (record { each = λ m. omega arith }, tt)
 fold_knows n (e ∷ xs) k wide all =
     let c = e.stamp.clock in
-    let broad : length c.at ≡ 16 = all.0.stamp.stamp.clock.wide in
+    let broad : length c.at ≡ max_members = all.0.stamp.stamp.clock.wide in
     let rest = fold_knows n xs (join k c) (length-clock_by k.n _) all.1 in (
       record { each = λ m. omega (arith, (at_most-join_left k c wide).each m, rest.0.each m) },
       (record { each = λ m. omega (arith, (at_most-join_right k c broad).each m, rest.0.each m) }, rest.1),
@@ -109,8 +110,8 @@ rising_push x [] h r = (tt, tt)
 rising_push x (a ∷ xs) h r = (all-append (λ d. is_below a.stamp d.stamp ≡ true) xs (x ∷ []) r.0 (h.0, tt), rising_push x xs h.1 r.1)
 
 -- a replica keeps what it does at another name of its number of members
-pub kept_from : {State Op : Type 0} (m : Meaning State Op) (r : Replica Op) (n : ℕ) → n ≡ members r → r.me < n → n ≤ 16 → All (IsKnown n) r.known → row r.known r.me ≡ version n r.delivered → AreKept m n r.delivered → AreKept m n r.waiting → IsKept m r
-kept_from m r n e = subst (λ k. r.me < k → k ≤ 16 → All (IsKnown k) r.known → row r.known r.me ≡ version k r.delivered → AreKept m k r.delivered → AreKept m k r.waiting → IsKept m r) (sym e)
+pub kept_from : {State Op : Type 0} (m : Meaning State Op) (r : Replica Op) (n : ℕ) → n ≡ members r → r.me < n → n ≤ max_members → All (IsKnown n) r.known → row r.known r.me ≡ version n r.delivered → AreKept m n r.delivered → AreKept m n r.waiting → IsKept m r
+kept_from m r n e = subst (λ k. r.me < k → k ≤ max_members → All (IsKnown k) r.known → row r.known r.me ≡ version k r.delivered → AreKept m k r.delivered → AreKept m k r.waiting → IsKept m r) (sym e)
     (λ a b d f h i. record { member = a; most = b; rows = d; own = f; delivered = h; waiting = i })
 
 -- the replica with an operation at the end

@@ -5,7 +5,7 @@ use Rattle.std.proofs.lemmas.List.{get_or-replicate, get_or_past, length-replica
 use Rattle.std.specs.List.{filter}
 use Rattle.std.proofs.lemmas.List.Elements.{All-filter, All-get_or, All-replicate}
 use Rattle.vector_clock.specs.declared.clock.Clock.{Clock}
-use Rattle.vector_clock.specs.Clock.{count, zero_clock}
+use Rattle.vector_clock.specs.Clock.{count, zero_clock, max_members}
 use Rattle.crdt_laws.specs.declared.small.Entry.{Entry}
 use Rattle.crdt_laws.specs.Tower.{IsIssued, Meaning}
 use Rattle.crdt_laws.proofs.Filters.{rising-filter}
@@ -14,9 +14,9 @@ use Rattle.replica_core.specs.Kept.{AreKept, IsBatchUpTo, IsKept, IsKeptBatch, I
 use Rattle.replica_core.proofs.Edit.{kept_from}
 
 pub none_counted : (n j : ℕ) → count (zero_clock n) j ≡ 0
-none_counted n j = elim (cases_lt j 16) [
-  | inl h ↦ get_or-replicate 16 j 0 0 h
-  | inr h ↦ get_or_past (replicate 16 0) j 0 h
+none_counted n j = elim (cases_lt j max_members) [
+  | inl h ↦ get_or-replicate max_members j 0 0 h
+  | inr h ↦ get_or_past (replicate max_members 0) j 0 h
 ]
 
 pub kept-filter : {State Op : Type 0} (m : Meaning State Op) (n : ℕ) (p : Entry Op → Bool) (xs : List (Entry Op)) → AreKept m n xs → AreKept m n (filter p xs)
@@ -50,7 +50,7 @@ up_to_sent r to k l u = record {
   ops = All-filter _ (λ e. IsUpTo k e.stamp.clock) r.delivered u.delivered;
 }
 
-pub known_zero : (n : ℕ) → 1 ≤ n → n ≤ 16 → IsKnown n (zero_clock n)
+pub known_zero : (n : ℕ) → 1 ≤ n → n ≤ max_members → IsKnown n (zero_clock n)
 known_zero n some most =
     let none : (j : ℕ) → count (zero_clock n) j ≡ 0 = none_counted n in
     record {
@@ -59,7 +59,7 @@ known_zero n some most =
       within = λ j. omega (arith, none j);
     }
 
-pub kept_new : {State Op : Type 0} (m : Meaning State Op) (doc : List ℕ) (me n : ℕ) → me < n → n ≤ 16 → IsKept m (new_replica doc me n)
+pub kept_new : {State Op : Type 0} (m : Meaning State Op) (doc : List ℕ) (me n : ℕ) → me < n → n ≤ max_members → IsKept m (new_replica doc me n)
 unfolding new_replica
 kept_new m doc me n l most =
     kept_from m (record { doc = doc; me = me; delivered = []; waiting = []; known = replicate n (zero_clock n) }) n (sym (length-replicate n (zero_clock n))) l most

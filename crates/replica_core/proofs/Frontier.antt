@@ -9,20 +9,20 @@ use Rattle.std.proofs.lemmas.List.{get_or-set_other, get_or-set_same, length-set
 use Rattle.std.proofs.lemmas.List.Elements.{recursion_from_All}
 use Rattle.vector_clock.specs.declared.clock.Clock.{Clock}
 use Rattle.vector_clock.specs.declared.stamp.Stamp.{Stamp}
-use Rattle.vector_clock.specs.Clock.{IsAtMost, count, with_entry, zero_clock}
+use Rattle.vector_clock.specs.Clock.{IsAtMost, count, with_entry, zero_clock, max_members, max_seq}
 use Rattle.vector_clock.specs.Stamp.{is_before, is_below, same_id}
 use Rattle.vector_clock.proofs.Keys.{below_known, key_asym, key_irreflexive, same_id_from}
 use Rattle.crdt_laws.specs.declared.small.Entry.{Entry}
 use Rattle.crdt_laws.specs.Sets.{IsHonest, IsRising, has_all_of}
-use Rattle.crdt_laws.proofs.Filters.{all_both, all_weaker}
+use Rattle.crdt_laws.proofs.Filters.{all_both}
 use Rattle.crdt_laws.proofs.Members.{each}
 use Rattle.replica_model.proofs.Names.{all_in, in_all}
 use Rattle.replica_core.specs.Frontier.{counted, frontier, is_at_most}
-use Rattle.crdt_laws.specs.Tower.{max_seq}
 use Rattle.vector_clock.proofs.Clocks.{at_most_below}
 use Rattle.replica_core.specs.Kept.{IsKnown}
 use Rattle.replica_core.specs.Rows.{IsFrom}
 use Rattle.replica_core.proofs.Export.{none_counted}
+use Rattle.vector_clock.proofs.Ordered.{all_weaker}
 
 abbrev seq_of : {Op : Type 0} → Entry Op → ℕ
 seq_of e = count e.stamp.clock e.stamp.member
@@ -146,7 +146,7 @@ next_is : {Op : Type 0} (e : Entry Op) (k : Clock) → (seq_of e == count k e.st
 next_is e k q = grind (arith, nat_tests)
 
 -- one operation counted
-counted_step : {Op : Type 0} (n : ℕ) (k : Clock) (e : Entry Op) (m : ℕ) → n ≤ 16 → length k.at ≡ 16 → IsFrom n e → Step m (count k m) (count (counted k e) m) e
+counted_step : {Op : Type 0} (n : ℕ) (k : Clock) (e : Entry Op) (m : ℕ) → n ≤ max_members → length k.at ≡ max_members → IsFrom n e → Step m (count k m) (count (counted k e) m) e
 counted_step n k e m most wide from = go (seq_of e == count k e.stamp.member + 1) refl
   where
     go : (b : Bool) → (seq_of e == count k e.stamp.member + 1) ≡ b → Step m (count k m) (count (cond b (with_entry k e.stamp.member (seq_of e)) k) m) e
@@ -160,14 +160,14 @@ counted_step n k e m most wide from = go (seq_of e == count k e.stamp.member + 1
       | inr other ↦ inr (get_or-set_other k.at e.stamp.member m (seq_of e) 0 other, λ same is. other (sym same))
     ]
 
-wide-counted : {Op : Type 0} (k : Clock) (e : Entry Op) → length k.at ≡ 16 → length (counted k e).at ≡ 16
+wide-counted : {Op : Type 0} (k : Clock) (e : Entry Op) → length k.at ≡ max_members → length (counted k e).at ≡ max_members
 wide-counted k e wide =
-    elim (seq_of e == count k e.stamp.member + 1) as (λ b. length (cond b (with_entry k e.stamp.member (seq_of e)) k).at ≡ 16) [
+    elim (seq_of e == count k e.stamp.member + 1) as (λ b. length (cond b (with_entry k e.stamp.member (seq_of e)) k).at ≡ max_members) [
       | true ↦ length-set k.at e.stamp.member (seq_of e) ∙ wide
       | false ↦ wide
     ]
 
-runs_fold : {Op : Type 0} (n m : ℕ) (xs : List (Entry Op)) (k : Clock) → n ≤ 16 → length k.at ≡ 16 → AllByRecursion (IsFrom n) xs → IsInOrder xs → Runs m (count k m) (count (fold counted k xs) m) xs
+runs_fold : {Op : Type 0} (n m : ℕ) (xs : List (Entry Op)) (k : Clock) → n ≤ max_members → length k.at ≡ max_members → AllByRecursion (IsFrom n) xs → IsInOrder xs → Runs m (count k m) (count (fold counted k xs) m) xs
 runs_fold n m [] k most wide all order = record { grows = omega arith; filled = λ s low high. absurd (omega arith); ends = refl }
 runs_fold n m (e ∷ xs) k most wide all order =
     runs_more m (count k m) (count (counted k e) m) (count (fold counted (counted k e) xs) m) e xs (counted_step n k e m most wide all.0) order.0
@@ -202,7 +202,7 @@ all_agree p q h [] = refl
 all_agree p q h (m ∷ ms) = ap₂ (λ a b. a && b) (h m) (all_agree p q h ms)
 
 -- the clock is at most the frontier where the set has all that it covers
-pub frontier_exact : {Op : Type 0} (n : ℕ) (xs : List (Entry Op)) → n ≤ 16 → All (IsFrom n) xs → IsHonest xs → IsRising xs → (c : Clock) → has_all_of xs c ≡ is_at_most c (frontier n xs)
+pub frontier_exact : {Op : Type 0} (n : ℕ) (xs : List (Entry Op)) → n ≤ max_members → All (IsFrom n) xs → IsHonest xs → IsRising xs → (c : Clock) → has_all_of xs c ≡ is_at_most c (frontier n xs)
 unfolding has_all_of is_at_most
 frontier_exact n xs most all honest rising c =
     all_agree (λ m. list_all (λ s. list_any (named m s) xs) (range_with_len 1 (count c m))) (λ m. nat_le (count c m) (count (frontier n xs) m))
@@ -212,14 +212,14 @@ frontier_exact n xs most all honest rising c =
     let none : count (zero_clock n) m ≡ 0 = none_counted n m in
     run_all (λ s. list_any (named m s) xs) (count (frontier n xs) m) (λ s low high. r.filled s (omega arith) high) r.ends (count c m) 1 (omega arith) (omega arith)
     ∙ le_suc (count c m) (count (frontier n xs) m)))
-    (range_with_len 0 16)
+    (range_with_len 0 max_members)
 
 -- the test tells the order of clocks
-pub tells : (b : Bool) (k c : Clock) → length k.at ≡ 16 → (b ≡ true) ↔ IsAtMost k c → b ≡ is_at_most k c
+pub tells : (b : Bool) (k c : Clock) → length k.at ≡ max_members → (b ≡ true) ↔ IsAtMost k c → b ≡ is_at_most k c
 unfolding is_at_most
 tells b k c wide h =
-    both_ways b (is_at_most k c) (λ q. (let l = (h.0 q).each in in_all (λ m. nat_le (count k m) (count c m)) 0 16 (λ m _ _. le-leb (count k m) (count c m) (l m))))
-    (λ q. h.1 (at_most_below k c wide (λ m l. leb-true (count k m) (count c m) (all_in (λ j. nat_le (count k j) (count c j)) 0 16 q m (omega arith) l))))
+    both_ways b (is_at_most k c) (λ q. (let l = (h.0 q).each in in_all (λ m. nat_le (count k m) (count c m)) 0 max_members (λ m _ _. le-leb (count k m) (count c m) (l m))))
+    (λ q. h.1 (at_most_below k c wide (λ m l. leb-true (count k m) (count c m) (all_in (λ j. nat_le (count k j) (count c j)) 0 max_members q m (omega arith) l))))
 
 -- a clock with the next operation of a member is known
 pub known-counted : {Op : Type 0} (n : ℕ) (k : Clock) (e : Entry Op) → IsKnown n k → IsFrom n e → IsKnown n (with_entry k e.stamp.member (seq_of e))

@@ -5,12 +5,13 @@ use Rattle.std.proofs.lemmas.List.Elements.{All-append, All-contains, All-contai
 use Rattle.vector_clock.specs.declared.clock.Clock.{Clock}
 use Rattle.vector_clock.specs.Stamp.{IsStamp}
 use Rattle.crdt_laws.specs.declared.small.Entry.{Entry}
-use Rattle.crdt_laws.specs.Sets.{IsHonest, has_all_of, together}
+use Rattle.crdt_laws.specs.Sets.{IsHonest, has_all_of, union}
 use Rattle.crdt_laws.proofs.Filters.{rising-filter}
 use Rattle.replica_model.specs.Replica.{ready, unready}
 use Rattle.replica_core.specs.Frontier.{frontier, is_at_most}
 use Rattle.replica_core.specs.Rows.{AreByKey, IsFrom}
 use Rattle.replica_core.proofs.Frontier.{frontier_exact}
+use Rattle.vector_clock.specs.Clock.{max_members}
 
 pub ok_both : {T E : Type 0} (r : Result T E) (P Q : T → Type 0) → IfOk r P → IfOk r Q → IfOk r (λ x. P x × Q x)
 ok_both (Ok x) P Q h k = (h, k)
@@ -51,12 +52,12 @@ pub by_key-filter : {Op : Type 0} (n : ℕ) (p : Entry Op → Bool) (xs : List (
 by_key-filter n p xs h = record { from = All-filter p (IsFrom n) xs h.from; rising = rising-filter p xs h.rising }
 
 -- what the frontier lets through is ready
-pub ready_is : {Op : Type 0} (n : ℕ) (xs : List (Entry Op)) (front : Clock) → n ≤ 16 → AreByKey n xs → IsHonest xs → front ≡ frontier n xs → filter (λ e. is_at_most e.stamp.clock front) xs ≡ ready xs
+pub ready_is : {Op : Type 0} (n : ℕ) (xs : List (Entry Op)) (front : Clock) → n ≤ max_members → AreByKey n xs → IsHonest xs → front ≡ frontier n xs → filter (λ e. is_at_most e.stamp.clock front) xs ≡ ready xs
 ready_is {Op} n xs front most h honest is =
     ap (λ (k : Clock). filter (λ (e : Entry Op). is_at_most e.stamp.clock k) xs) is
     ∙ filter_agree (λ (e : Entry Op). is_at_most e.stamp.clock (frontier n xs)) (λ e. has_all_of xs e.stamp.clock) (λ e. sym (frontier_exact n xs most h.from honest h.rising e.stamp.clock)) xs
 
-pub unready_is : {Op : Type 0} (n : ℕ) (xs : List (Entry Op)) (front : Clock) → n ≤ 16 → AreByKey n xs → IsHonest xs → front ≡ frontier n xs → filter (λ e. not (is_at_most e.stamp.clock front)) xs ≡ unready xs
+pub unready_is : {Op : Type 0} (n : ℕ) (xs : List (Entry Op)) (front : Clock) → n ≤ max_members → AreByKey n xs → IsHonest xs → front ≡ frontier n xs → filter (λ e. not (is_at_most e.stamp.clock front)) xs ≡ unready xs
 unready_is {Op} n xs front most h honest is =
     ap (λ (k : Clock). filter (λ (e : Entry Op). not (is_at_most e.stamp.clock k)) xs) is
     ∙ filter_agree (λ (e : Entry Op). not (is_at_most e.stamp.clock (frontier n xs))) (λ e. not (has_all_of xs e.stamp.clock)) (λ e. ap not (sym (frontier_exact n xs most h.from honest h.rising e.stamp.clock))) xs
@@ -72,7 +73,7 @@ less_twice d w a own all f h e k = less_left own (d ++ w) a (less_joined own d w
 pub from_once : {Op : Type 0} (n : ℕ) (d w own : List (Entry Op)) → IsOfBoth own d w → All (IsFrom n) d → All (IsFrom n) w → All (IsFrom n) own
 from_once n d w own f h k = all_less (IsFrom n) own (d ++ w) (less_joined own d w f) (All-append (IsFrom n) d w h k)
 
-pub pooled_is : {Op : Type 0} (d w a own all : List (Entry Op)) → IsOfBoth own d w → (IsHonest (d ++ w) → own ≡ together d w) → (IsHonest (own ++ a) → all ≡ together own a) → IsHonest ((d ++ w) ++ a) → all ≡ together (together d w) a
+pub pooled_is : {Op : Type 0} (d w a own all : List (Entry Op)) → IsOfBoth own d w → (IsHonest (d ++ w) → own ≡ union d w) → (IsHonest (own ++ a) → all ≡ union own a) → IsHonest ((d ++ w) ++ a) → all ≡ union (union d w) a
 pooled_is d w a own all f first second honest =
     second (honest_less (own ++ a) ((d ++ w) ++ a) (less_left own (d ++ w) a (less_joined own d w f)) honest)
-    ∙ ap (λ t. together t a) (first (honest_less (d ++ w) ((d ++ w) ++ a) (λ e k. Contains-append_left (d ++ w) a e k) honest))
+    ∙ ap (λ t. union t a) (first (honest_less (d ++ w) ((d ++ w) ++ a) (λ e k. Contains-append_left (d ++ w) a e k) honest))

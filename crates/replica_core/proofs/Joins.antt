@@ -4,23 +4,23 @@ use Rattle.std.specs.List.{AllByRecursion}
 use Rattle.std.proofs.lemmas.Bool.{cases_lt}
 use Rattle.std.proofs.lemmas.List.{get_or_past}
 use Rattle.vector_clock.specs.declared.clock.Clock.{Clock}
-use Rattle.vector_clock.specs.Clock.{IsAtMost, clock_by, count, join, meet}
+use Rattle.vector_clock.specs.Clock.{IsAtMost, clock_by, count, join, meet, max_members}
 use Rattle.vector_clock.proofs.Clocks.{clock_by-is, count-clock_by, length-clock_by, n-clock_by}
 use Rattle.crdt_laws.specs.declared.small.Entry.{Entry}
 use Rattle.replica_core.specs.Kept.{IsKnown, IsUpTo}
 
--- past 16 a clock made of a function counts nothing
-pub count_past : (n : ℕ) (f : ℕ → ℕ) (m : ℕ) → 16 ≤ m → count (clock_by n f) m ≡ 0
-count_past n f m h = let wide : length (clock_by n f).at ≡ 16 = length-clock_by n f in get_or_past (clock_by n f).at m 0 (omega arith)
+-- past its last entry a clock made of a function counts nothing
+pub count_past : (n : ℕ) (f : ℕ → ℕ) (m : ℕ) → max_members ≤ m → count (clock_by n f) m ≡ 0
+count_past n f m h = let wide : length (clock_by n f).at ≡ max_members = length-clock_by n f in get_or_past (clock_by n f).at m 0 (omega arith)
 
 pub count-join_at_most : (a b : Clock) (m : ℕ) → count (join a b) m ≤ max (count a m) (count b m)
-count-join_at_most a b m = elim (cases_lt m 16) [
+count-join_at_most a b m = elim (cases_lt m max_members) [
   | inl h ↦ let e = count-clock_by a.n (λ j. max (count a j) (count b j)) m h in omega arith
   | inr h ↦ let e : count (join a b) m ≡ 0 = count_past a.n (λ j. max (count a j) (count b j)) m (omega arith) in omega arith
 ]
 
 pub count-meet_at_most : (a b : Clock) (m : ℕ) → count (meet a b) m ≤ count a m
-count-meet_at_most a b m = elim (cases_lt m 16) [
+count-meet_at_most a b m = elim (cases_lt m max_members) [
   | inl h ↦ let e = count-clock_by a.n (λ j. min (count a j) (count b j)) m h in omega arith
   | inr h ↦ let e : count (meet a b) m ≡ 0 = count_past a.n (λ j. min (count a j) (count b j)) m (omega arith) in omega arith
 ]
@@ -65,20 +65,20 @@ known-meet n a b h l =
     }
 
 -- a clock that another one is below is their join
-pub join_above : (a b : Clock) → b.n ≡ a.n → length b.at ≡ 16 → IsAtMost a b → join a b ≡ b
+pub join_above : (a b : Clock) → b.n ≡ a.n → length b.at ≡ max_members → IsAtMost a b → join a b ≡ b
 join_above a b same wide h = sym (clock_by-is a.n (λ m. max (count a m) (count b m)) b same wide (λ k l. omega (arith, h.each k)))
 
-pub at_most-join_left : (a b : Clock) → length a.at ≡ 16 → IsAtMost a (join a b)
+pub at_most-join_left : (a b : Clock) → length a.at ≡ max_members → IsAtMost a (join a b)
 at_most-join_left a b wide = record {
-  each = λ m. elim (cases_lt m 16) [
+  each = λ m. elim (cases_lt m max_members) [
     | inl h ↦ let e = count-clock_by a.n (λ j. max (count a j) (count b j)) m h in omega arith
     | inr h ↦ let past : get_or a.at m 0 ≡ 0 = get_or_past a.at m 0 (omega arith) in omega arith
   ];
 }
 
-pub at_most-join_right : (a b : Clock) → length b.at ≡ 16 → IsAtMost b (join a b)
+pub at_most-join_right : (a b : Clock) → length b.at ≡ max_members → IsAtMost b (join a b)
 at_most-join_right a b wide = record {
-  each = λ m. elim (cases_lt m 16) [
+  each = λ m. elim (cases_lt m max_members) [
     | inl h ↦ let e = count-clock_by a.n (λ j. max (count a j) (count b j)) m h in omega arith
     | inr h ↦ let past : get_or b.at m 0 ≡ 0 = get_or_past b.at m 0 (omega arith) in omega arith
   ];

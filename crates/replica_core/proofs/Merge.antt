@@ -9,8 +9,8 @@ use Rattle.vector_clock.specs.declared.clock.Clock.{Clock}
 use Rattle.vector_clock.specs.Clock.{count, join, zero_clock}
 use Rattle.crdt_laws.specs.declared.small.Entry.{Entry}
 use Rattle.crdt_laws.specs.Tower.{IsIssued, IsLawful, Meaning}
-use Rattle.crdt_laws.specs.Sets.{IsHonest, together}
-use Rattle.crdt_laws.proofs.Filters.{all_both, all_weaker}
+use Rattle.crdt_laws.specs.Sets.{IsHonest, union}
+use Rattle.crdt_laws.proofs.Filters.{all_both}
 use Rattle.replica_model.specs.Replica.{Batch, Replica, heard, heard_header, heard_op, members, merged, pooled, ready, row, unready, version}
 use Rattle.replica_model.proofs.Merged.{length-heard, length-heard_header}
 use Rattle.replica_core.specs.Kept.{AreKept, IsBatchUpTo, IsKept, IsKeptBatch, IsKnown, IsReplicaUpTo, IsUpTo}
@@ -20,6 +20,7 @@ use Rattle.replica_core.proofs.Export.{known_zero, none_counted}
 use Rattle.replica_core.proofs.Gathered.{IsLess, all_less}
 use Rattle.replica_core.proofs.Joins.{fold-joins, known-join, up_to-join}
 use Rattle.replica_core.proofs.Steps.{known_clock, with_row_known}
+use Rattle.vector_clock.proofs.Ordered.{all_weaker}
 
 -- rows
 
@@ -64,9 +65,9 @@ settled r b ds ws = record { doc = r.doc; me = r.me; delivered = ds; waiting = w
 -- what is to be delivered, and what waits, where all is honest
 abbrev pub AreSifted : {Op : Type 0} → Replica Op → Batch Op → List (Entry Op) → List (Entry Op) → Type 0
 AreSifted r b ds ws =
-    IsHonest ((r.delivered ++ r.waiting) ++ b.ops) → (let all = together (together r.delivered r.waiting) b.ops in (ds ≡ ready all) × (ws ≡ unready all))
+    IsHonest ((r.delivered ++ r.waiting) ++ b.ops) → (let all = union (union r.delivered r.waiting) b.ops in (ds ≡ ready all) × (ws ≡ unready all))
 
-pub settled_is : {Op : Type 0} (r : Replica Op) (b : Batch Op) (ds ws : List (Entry Op)) → ds ≡ ready (together (together r.delivered r.waiting) b.ops) → ws ≡ unready (together (together r.delivered r.waiting) b.ops) → settled r b ds ws ≡ merged r b
+pub settled_is : {Op : Type 0} (r : Replica Op) (b : Batch Op) (ds ws : List (Entry Op)) → ds ≡ ready (union (union r.delivered r.waiting) b.ops) → ws ≡ unready (union (union r.delivered r.waiting) b.ops) → settled r b ds ws ≡ merged r b
 unfolding merged pooled
 settled_is {Op} r b ds ws d w = ap₂ (λ (xs ys : List (Entry Op)). settled r b xs ys) d w
 

@@ -2,7 +2,7 @@
 use Rattle.std.specs.Prelude.{ℕ, ◌+◌, List, Bool, ◌==◌, nat_le, fold, if◌then◌else◌}
 use Rattle.std.specs.List.{list_all, range_with_len}
 use Rattle.vector_clock.specs.declared.clock.Clock.{Clock}
-use Rattle.vector_clock.specs.Clock.{count, with_entry, zero_clock}
+use Rattle.vector_clock.specs.Clock.{count, with_entry, zero_clock, max_members}
 use Rattle.crdt_laws.specs.declared.small.Entry.{Entry}
 
 -- the clock, with the operation counted where it is the next one of its member
@@ -16,4 +16,4 @@ frontier n xs = fold counted (zero_clock n) xs
 
 -- whether the first clock is entry by entry at most the second
 unfoldable pub is_at_most : Clock → Clock → Bool
-is_at_most a b = list_all (λ m. nat_le (count a m) (count b m)) (range_with_len 0 16)
+is_at_most a b = list_all (λ m. nat_le (count a m) (count b m)) (range_with_len 0 max_members)

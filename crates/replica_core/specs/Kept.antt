@@ -2,9 +2,9 @@
 use Rattle.std.specs.Prelude.{◌≡◌, ℕ, ◌<◌, ◌≤◌, List}
 use Rattle.std.specs.List.{All}
 use Rattle.vector_clock.specs.declared.clock.Clock.{Clock}
-use Rattle.vector_clock.specs.Clock.{IsClock, count}
+use Rattle.vector_clock.specs.Clock.{IsClock, count, max_members, max_seq}
 use Rattle.crdt_laws.specs.declared.small.Entry.{Entry}
-use Rattle.crdt_laws.specs.Tower.{Meaning, max_seq}
+use Rattle.crdt_laws.specs.Tower.{Meaning}
 use Rattle.crdt_laws.specs.Sets.{AreIssued, IsRising}
 use Rattle.replica_model.specs.Replica.{Replica, Batch, members, row, version}
 
@@ -21,7 +21,7 @@ pub record AreKept {State Op : Type 0} (m : Meaning State Op) (n : ℕ) (xs : Li
 
 pub record IsKept {State Op : Type 0} (m : Meaning State Op) (r : Replica Op) : Type 0 where
   pub member : r.me < members r
-  pub most : members r ≤ 16
+  pub most : members r ≤ max_members
   pub rows : All (IsKnown (members r)) r.known
   pub own : row r.known r.me ≡ version (members r) r.delivered
   pub delivered : AreKept m (members r) r.delivered

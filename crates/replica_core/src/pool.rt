@@ -1,14 +1,14 @@
 ghost use Rattle.std.specs.Prelude.{◌≡◌, ◌++◌, ◌≤◌, ℕ, IfOk, not};
 ghost use Rattle.std.specs.List.{All, Contains, filter};
-ghost use Rattle.vector_clock.specs.Clock.{IsClock};
+ghost use Rattle.vector_clock.specs.Clock.{IsClock, max_members};
 ghost use Rattle.crdt_laws.specs.declared.small.Entry.{Entry};
-ghost use Rattle.crdt_laws.specs.Sets.{IsHonest, together};
+ghost use Rattle.crdt_laws.specs.Sets.{IsHonest, union};
 ghost use Rattle.replica_model.specs.Replica.{ready, unready};
 ghost use Rattle.replica_core.specs.Frontier.{frontier, is_at_most};
 ghost use Rattle.replica_core.specs.Kept.{IsKnown};
 ghost use Rattle.replica_core.specs.Rows.{AreByKey, IsFrom};
 
-use crdt_laws::{Entry, NoMemory, Ops, together};
+use crdt_laws::{Entry, NoMemory, Ops, union};
 use std::alloc::Global;
 use vector_clock::Clock;
 
@@ -16,7 +16,7 @@ use vector_clock::Clock;
 /// stand by their numbers.
 fn frontier<Op>(n: u8, ops: &[Entry<Op>]) -> Clock
     requires some { 1 ≤ n }
-    requires most { n ≤ 16 }
+    requires most { n ≤ max_members }
     requires ops { All (IsFrom n) ops.now }
     ensures frontier { result ≡ frontier n ops.now }
     ensures known { IsKnown n result }
@@ -74,17 +74,17 @@ pub(crate) fn sift<Op: Drop>(
     arrived: Ops<Op>,
 ) -> Result<(Ops<Op>, Ops<Op>), NoMemory>
     requires some { 1 ≤ n }
-    requires most { n ≤ 16 }
+    requires most { n ≤ max_members }
     requires delivered { AreByKey n delivered }
     requires waiting { AreByKey n waiting }
     requires arrived { AreByKey n arrived }
-    ensures sifted { IfOk result (λ x. IsHonest ((delivered ++ waiting) ++ arrived) → let all = together (together delivered waiting) arrived in (x.0 ≡ ready all) × (x.1 ≡ unready all)) }
+    ensures sifted { IfOk result (λ x. IsHonest ((delivered ++ waiting) ++ arrived) → let all = union (union delivered waiting) arrived in (x.0 ≡ ready all) × (x.1 ≡ unready all)) }
     ensures by_key { IfOk result (λ x. AreByKey n x.0 × AreByKey n x.1) }
     ensures ready_from { IfOk result (λ x. (e : Entry Op) → Contains x.0 e → Contains ((delivered ++ waiting) ++ arrived) e) }
     ensures unready_from { IfOk result (λ x. (e : Entry Op) → Contains x.1 e → Contains ((delivered ++ waiting) ++ arrived) e) }
 {
-    let own = together(alloc, delivered, waiting)?;
-    let all = together(alloc, own, arrived)?;
+    let own = union(alloc, delivered, waiting)?;
+    let all = union(alloc, own, arrived)?;
     let front = frontier(n, all.as_slice());
     split(alloc, all, &front)
 }

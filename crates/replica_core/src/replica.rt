@@ -1,4 +1,5 @@
 ghost use Rattle.std.specs.Prelude.{◌≡◌};
+ghost use Rattle.vector_clock.specs.Clock.{max_members};
 
 use crate::copies::copy_beyond;
 use crate::pool::sift;
@@ -19,7 +20,7 @@ pub struct Replica<T: Tower> {
     pub delivered: Ops<T::Op>,
     /// The operations that wait for others which they knew of, by key.
     pub waiting: Ops<T::Op>,
-    /// For each of the 1 to 16 members, what it is known to have: of the own member, all that is in.
+    /// For each of the 1 to 64 members, what it is known to have: of the own member, all that is in.
     pub known: List<Clock>,
 }
 
@@ -45,7 +46,7 @@ impl<T: Tower> Replica<T> {
     #[tactic(auto, unfolding(replica_model::specs::Replica::new_replica))]
     pub fn new(alloc: Global, doc: Txt, me: u8, n: u8) -> Result<Replica<T>, NoMemory>
         requires member { me < n }
-        requires most { n ≤ 16 }
+        requires most { n ≤ max_members }
         ensures new { IfOk result (λ r. r ≡ new_replica doc me n) }
         ensures kept { (t : T) → IfOk result (λ r. IsKept (T.meaning t) r) }
         ensures up_to { IfOk result (λ r. IsReplicaUpTo 0 r) }

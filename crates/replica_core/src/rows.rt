@@ -1,4 +1,5 @@
 ghost use Rattle.std.specs.Prelude.{◌≡◌, ℕ, ◌<◌, ◌≤◌, length, slice_set};
+ghost use Rattle.vector_clock.specs.Clock.{max_members};
 ghost use Rattle.std.specs.List.{All};
 ghost use Rattle.replica_model.specs.Replica.{heard, heard_header, meet_all, row, version};
 ghost use Rattle.replica_core.specs.Kept.{IsKnown};
@@ -43,7 +44,7 @@ pub(crate) fn floor(rows: &List<Clock>) -> Clock
 /// What the operations know of.
 pub(crate) fn version<Op>(n: u8, ops: &[Entry<Op>]) -> Clock
     requires some { 1 ≤ n }
-    requires most { n ≤ 16 }
+    requires most { n ≤ max_members }
     requires ops { All (IsFrom n) ops.now }
     ensures version { result ≡ version n ops.now }
     ensures known { IsKnown n result }
@@ -103,7 +104,7 @@ pub(crate) fn rows_after<Op>(
     ops: &[Entry<Op>],
 ) -> List<Clock>
     requires me { me < length rows }
-    requires most { length rows ≤ 16 }
+    requires most { length rows ≤ max_members }
     requires sender { sender < length rows }
     requires rows { All (IsKnown (length rows)) rows }
     requires header { IsKnown (length rows) header.now }

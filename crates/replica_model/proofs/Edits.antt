@@ -7,12 +7,12 @@ use Rattle.std.proofs.lemmas.List.Elements.{All-contains, Contains-append_left, 
 use Rattle.vector_clock.specs.declared.clock.Clock.{Clock}
 use Rattle.vector_clock.specs.declared.clock.Id.{Id}
 use Rattle.vector_clock.specs.declared.stamp.Stamp.{Stamp}
-use Rattle.vector_clock.specs.Clock.{IsAtMost, count, covers}
+use Rattle.vector_clock.specs.Clock.{IsAtMost, count, covers, max_members}
 use Rattle.vector_clock.specs.Stamp.{IsAfter, id_of, is_before, same_id}
 use Rattle.vector_clock.proofs.Keys.{before_covers, same_id_sym}
 use Rattle.crdt_laws.specs.declared.small.Entry.{Entry}
 use Rattle.crdt_laws.specs.Entry.{entry}
-use Rattle.crdt_laws.specs.Sets.{IsClosed, IsHonest, IsRising, has_name, place}
+use Rattle.crdt_laws.specs.Sets.{IsClosed, IsHonest, IsRising, has_id, place}
 use Rattle.crdt_laws.specs.Tower.{IsStampOf, IsWithin}
 use Rattle.crdt_laws.proofs.Filters.{all-place}
 use Rattle.crdt_laws.proofs.Members.{Contains-cases, Contains-front, Contains-more, Contains-place, at_member}
@@ -88,7 +88,7 @@ doc-edited r op = refl
 -- all operations that are anywhere, and a replica that has all of its own member's
 
 pub record MayEdit {Op : Type 0} (zs : List (Entry Op)) (n : ℕ) (r : Replica Op) : Type 0 where
-  pub few : n ≤ 16
+  pub few : n ≤ max_members
   pub honest : IsHonest zs
   pub closed : IsClosed zs
   pub stamped : (e : Entry Op) → Contains zs e → IsStampOf n e.stamp
@@ -106,10 +106,10 @@ module _ {Op : Type 0} (zs : List (Entry Op)) (n : ℕ) (r : Replica Op) (may : 
   k_knows : (e : Entry Op) → Contains r.delivered e → IsAtMost e.stamp.clock k
   k_knows = version_knows (members r) r.delivered delivered_stamped
 
-  wide : length k.at ≡ 16
+  wide : length k.at ≡ max_members
   wide = length-version (members r) r.delivered
 
-  within : r.me < 16
+  within : r.me < max_members
   within = let m = may.sound.member in let f = may.few in omega arith
 
   new_seq : count (next_stamp r).clock r.me ≡ count k r.me + 1
@@ -250,19 +250,19 @@ module _ {Op : Type 0} (zs : List (Entry Op)) (n : ℕ) (r : Replica Op) (may : 
   waiting_inside : (e : Entry Op) → Contains r.waiting e → Contains zs e
   waiting_inside e c = may.inside e (Contains-append_right r.delivered r.waiting e c)
 
-  still_absent : (op : Op) (e : Entry Op) (i : Id) → Contains r.waiting e → covers e.stamp.clock i ≡ true → has_name (r.delivered ++ r.waiting) i ≡ false
-      → has_name ((edited r op).delivered ++ r.waiting) i ≡ false
+  still_absent : (op : Op) (e : Entry Op) (i : Id) → Contains r.waiting e → covers e.stamp.clock i ≡ true → has_id (r.delivered ++ r.waiting) i ≡ false
+      → has_id ((edited r op).delivered ++ r.waiting) i ≡ false
   still_absent op e i c cov none =
       let all = (edited r op).delivered ++ r.waiting in
       let old = r.delivered ++ r.waiting in
-      false_from_ne_true (has_name all i) (λ t.
+      false_from_ne_true (has_id all i) (λ t.
       let found = named_in all i t in
       elim (Contains-append_cases (edited r op).delivered r.waiting found.0 found.1) [
         | inl d ↦ elim (in_edited op found.0 d) [
           | inl q ↦ unknown e (waiting_inside e c) (subst (λ (j : Id). covers e.stamp.clock j ≡ true) (sym (ap (λ (z : Entry Op). id_of z.stamp) q ∙ found.2)) cov)
-          | inr j ↦ both_ways (has_name old i) none (has_name_from old found.0 i (Contains-append_left r.delivered r.waiting found.0 j) found.2)
+          | inr j ↦ both_ways (has_id old i) none (has_name_from old found.0 i (Contains-append_left r.delivered r.waiting found.0 j) found.2)
         ]
-        | inr w ↦ both_ways (has_name old i) none (has_name_from old found.0 i (Contains-append_right r.delivered r.waiting found.0 w) found.2)
+        | inr w ↦ both_ways (has_id old i) none (has_name_from old found.0 i (Contains-append_right r.delivered r.waiting found.0 w) found.2)
       ])
 
   edited_waits : (op : Op) (e : Entry Op) → Contains r.waiting e → WaitsIn ((edited r op).delivered ++ r.waiting) e

@@ -5,7 +5,7 @@ use Rattle.std.specs.List.{All, AllByRecursion, Any, IsDistinct}
 use Rattle.std.proofs.lemmas.Bool.{ne_eqb}
 use Rattle.std.proofs.lemmas.List.{append-nil, length-replicate}
 use Rattle.std.proofs.lemmas.List.Elements.{All-contains, All-nil, Contains-append_left, Contains-append_cases}
-use Rattle.vector_clock.specs.Clock.{covers, zero_clock}
+use Rattle.vector_clock.specs.Clock.{covers, zero_clock, max_members}
 use Rattle.vector_clock.specs.Stamp.{IsStamp, id_of}
 use Rattle.crdt_laws.specs.declared.small.Entry.{Entry}
 use Rattle.crdt_laws.specs.Entry.{entry}
@@ -51,7 +51,7 @@ module _ {State Op : Type 0} (m : Meaning State Op) (n : ℕ) (ts : List (Thing 
         (replica_inside o.0 o.1 f.1 (Contains-append_left o.0.delivered o.0.waiting f.1 (f.0, f.2, f.3))) f.4;
   }
 
-  pub may_edit : n ≤ 16 → (r : Replica Op) → Contains ts (replica r) → MayEdit (operations ts) n r
+  pub may_edit : n ≤ max_members → (r : Replica Op) → Contains ts (replica r) → MayEdit (operations ts) n r
   may_edit few r c = record {
     few = few;
     honest = family.honest;
@@ -190,7 +190,7 @@ module _ {State Op : Type 0} (m : Meaning State Op) (n : ℕ) (xs ys : List (Thi
       may : MayMerge r b
       may = may_merge m n all family r b here c
 
-  pub in_family_edited : n ≤ 16 → (op : Op) → (e : Entry Op) → Contains (operations (xs ++ replica (edited r op) ∷ ys)) e
+  pub in_family_edited : n ≤ max_members → (op : Op) → (e : Entry Op) → Contains (operations (xs ++ replica (edited r op) ∷ ys)) e
       → Contains (entry (next_stamp r) op ∷ operations (xs ++ replica r ∷ ys)) e
   in_family_edited few op e d =
       elim (in_after m n xs ys r (edited r op) family e d) [
@@ -198,7 +198,7 @@ module _ {State Op : Type 0} (m : Meaning State Op) (n : ℕ) (xs ys : List (Thi
         | inr j ↦ Contains-more (entry (next_stamp r) op) (operations all) e j
       ]
 
-  pub family_edited : n ≤ 16 → (op : Op) → IsIssued m n (next_stamp r) op → IsHonestFamily m n (xs ++ replica (edited r op) ∷ ys)
+  pub family_edited : n ≤ max_members → (op : Op) → IsIssued m n (next_stamp r) op → IsHonestFamily m n (xs ++ replica (edited r op) ∷ ys)
   family_edited few op new =
       in_place_of m n xs ys r (edited r op) family (me-edited r op) (edited_sound (operations all) n r may op) (edited_grows (operations all) n r may op)
       (honest_part (entry (next_stamp r) op ∷ operations all) (operations later) (honest_edited (operations all) n r may op) (in_family_edited few op))
@@ -228,7 +228,7 @@ module _ {State Op : Type 0} (m : Meaning State Op) (n : ℕ) (xs ys : List (Thi
           ]
 
   -- within the limit of sequence numbers
-  pub family_edited_valid : n ≤ 16 → (op : Op) → IsWithin (next_stamp r) → m.valid (next_stamp r) op → IsHonestFamily m n (xs ++ replica (edited r op) ∷ ys)
+  pub family_edited_valid : n ≤ max_members → (op : Op) → IsWithin (next_stamp r) → m.valid (next_stamp r) op → IsHonestFamily m n (xs ++ replica (edited r op) ∷ ys)
   family_edited_valid few op limit valid =
       family_edited few op (record { stamp = next_stamp_is (operations all) n r (may_edit m n all family few r here) limit; valid = valid })
 

@@ -8,7 +8,7 @@ use Rattle.vector_clock.specs.declared.clock.Clock.{Clock}
 use Rattle.vector_clock.specs.Clock.{count, join}
 use Rattle.vector_clock.specs.Stamp.{IsStamp}
 use Rattle.crdt_laws.specs.declared.small.Entry.{Entry}
-use Rattle.crdt_laws.specs.Sets.{IsClosed, IsHonest, IsRising, has_name, has_all_of}
+use Rattle.crdt_laws.specs.Sets.{IsClosed, IsHonest, IsRising, has_id, has_all_of}
 use Rattle.crdt_laws.proofs.Both.{honest_part}
 use Rattle.crdt_laws.proofs.Filters.{rising-filter}
 use Rattle.crdt_laws.proofs.Members.{filter_inside}
@@ -117,9 +117,9 @@ module _ {Op : Type 0} (r : Replica Op) (b : Batch Op) (may : MayMerge r b) wher
         name = miss.name;
         counted = miss.counted;
         covered = miss.covered;
-        absent = false_from_ne_true (has_name all miss.name) (λ t.
+        absent = false_from_ne_true (has_id all miss.name) (λ t.
             let found = named_in all miss.name t in
-            both_ways (has_name (pooled r b) miss.name) miss.absent (has_name_from (pooled r b) found.0 miss.name (merged_pooled found.0 found.1) found.2));
+            both_ways (has_id (pooled r b) miss.name) miss.absent (has_name_from (pooled r b) found.0 miss.name (merged_pooled found.0 found.1) found.2));
       }
 
   pub merged_sound : (n : ℕ) → IsSoundReplica n r → IsSoundReplica n (merged r b)

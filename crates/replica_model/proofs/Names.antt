@@ -8,10 +8,10 @@ use Rattle.std.proofs.lemmas.List.Folds.{Any-from_list_any, list_any-from_Any}
 use Rattle.vector_clock.specs.declared.clock.Clock.{Clock}
 use Rattle.vector_clock.specs.declared.clock.Id.{Id}
 use Rattle.vector_clock.specs.declared.stamp.Stamp.{Stamp}
-use Rattle.vector_clock.specs.Clock.{count, covers}
+use Rattle.vector_clock.specs.Clock.{count, covers, max_members}
 use Rattle.vector_clock.specs.Stamp.{id_of, same_id}
 use Rattle.crdt_laws.specs.declared.small.Entry.{Entry}
-use Rattle.crdt_laws.specs.Sets.{has_name, has_all_of}
+use Rattle.crdt_laws.specs.Sets.{has_id, has_all_of}
 
 -- some element
 
@@ -41,13 +41,13 @@ pub same_id_from_ids : (p q : Stamp) → id_of p ≡ id_of q → same_id p q ≡
 unfolding same_id
 same_id_from_ids p q h = is_id_from p (id_of q) h
 
-pub has_name_from : {Op : Type 0} (xs : List (Entry Op)) (e : Entry Op) (i : Id) → Contains xs e → id_of e.stamp ≡ i → has_name xs i ≡ true
+pub has_name_from : {Op : Type 0} (xs : List (Entry Op)) (e : Entry Op) (i : Id) → Contains xs e → id_of e.stamp ≡ i → has_id xs i ≡ true
 has_name_from {Op} xs e i c h =
     list_any-from_Any (λ (e : Entry Op). eqb e.stamp.member i.member && eqb (count e.stamp.clock e.stamp.member) i.seq) xs
     (any_from _ xs e c (is_id_from e.stamp i h))
 
 -- the operation with the name
-pub named_in : {Op : Type 0} (xs : List (Entry Op)) (i : Id) → has_name xs i ≡ true → (e : Entry Op) × Contains xs e × (id_of e.stamp ≡ i)
+pub named_in : {Op : Type 0} (xs : List (Entry Op)) (i : Id) → has_id xs i ≡ true → (e : Entry Op) × Contains xs e × (id_of e.stamp ≡ i)
 named_in {Op} xs i h =
     let a = Any-from_list_any (λ (e : Entry Op). eqb e.stamp.member i.member && eqb (count e.stamp.clock e.stamp.member) i.seq) xs h in
     (a.1, (a.0, a.2, a.3), is_id a.1.stamp i a.4)
@@ -80,34 +80,34 @@ out_of p a (suc n) h =
 -- all that a clock covers
 
 pub all_names : {Op : Type 0} (xs : List (Entry Op)) (k : Clock) → has_all_of xs k ≡ true
-    → (i : Id) → i.member < 16 → 1 ≤ i.seq → covers k i ≡ true → has_name xs i ≡ true
+    → (i : Id) → i.member < max_members → 1 ≤ i.seq → covers k i ≡ true → has_id xs i ≡ true
 unfolding has_all_of
 all_names xs k h i within counted c =
-    let row = all_in (λ m. list_all (λ s. has_name xs (record { member = m; seq = s })) (range_with_len 1 (count k m))) 0 16 h i.member (omega arith) (omega arith) in
+    let row = all_in (λ m. list_all (λ s. has_id xs (record { member = m; seq = s })) (range_with_len 1 (count k m))) 0 max_members h i.member (omega arith) (omega arith) in
     let at_most : i.seq ≤ count k i.member = leb-true i.seq (count k i.member) c in
-    all_in (λ s. has_name xs (record { member = i.member; seq = s })) 1 (count k i.member) row i.seq counted (omega arith)
+    all_in (λ s. has_id xs (record { member = i.member; seq = s })) 1 (count k i.member) row i.seq counted (omega arith)
 
 pub from_all_names : {Op : Type 0} (xs : List (Entry Op)) (k : Clock)
-    → ((i : Id) → i.member < 16 → 1 ≤ i.seq → covers k i ≡ true → has_name xs i ≡ true) → has_all_of xs k ≡ true
+    → ((i : Id) → i.member < max_members → 1 ≤ i.seq → covers k i ≡ true → has_id xs i ≡ true) → has_all_of xs k ≡ true
 unfolding has_all_of
 from_all_names xs k h =
-    in_all (λ m. list_all (λ s. has_name xs (record { member = m; seq = s })) (range_with_len 1 (count k m))) 0 16
-    (λ m l u. in_all (λ s. has_name xs (record { member = m; seq = s })) 1 (count k m)
+    in_all (λ m. list_all (λ s. has_id xs (record { member = m; seq = s })) (range_with_len 1 (count k m))) 0 max_members
+    (λ m l u. in_all (λ s. has_id xs (record { member = m; seq = s })) 1 (count k m)
     (λ s v w. h (record { member = m; seq = s }) (omega arith) v (le-leb s (count k m) (omega arith))))
 
 -- a name that is missing
 pub record Misses {Op : Type 0} (xs : List (Entry Op)) (k : Clock) : Type 0 where
   pub name : Id
-  pub member : name.member < 16
+  pub member : name.member < max_members
   pub counted : 1 ≤ name.seq
   pub covered : covers k name ≡ true
-  pub absent : has_name xs name ≡ false
+  pub absent : has_id xs name ≡ false
 
 pub missing_name : {Op : Type 0} (xs : List (Entry Op)) (k : Clock) → has_all_of xs k ≡ false → Misses xs k
 unfolding has_all_of
 missing_name xs k h =
-    let row = out_of (λ m. list_all (λ s. has_name xs (record { member = m; seq = s })) (range_with_len 1 (count k m))) 0 16 h in
-    let one = out_of (λ s. has_name xs (record { member = row.0; seq = s })) 1 (count k row.0) row.3 in
+    let row = out_of (λ m. list_all (λ s. has_id xs (record { member = m; seq = s })) (range_with_len 1 (count k m))) 0 max_members h in
+    let one = out_of (λ s. has_id xs (record { member = row.0; seq = s })) 1 (count k row.0) row.3 in
     record {
       name = record { member = row.0; seq = one.0 };
       member = omega (arith, row.2);

@@ -6,7 +6,7 @@ use Rattle.std.proofs.lemmas.Bool.{cases_Bool, cases_lt, leb-true, le-leb, both_
 use Rattle.vector_clock.specs.declared.clock.Clock.{Clock}
 use Rattle.vector_clock.specs.declared.clock.Id.{Id}
 use Rattle.vector_clock.specs.declared.stamp.Stamp.{Stamp}
-use Rattle.vector_clock.specs.Clock.{IsAtMost, IsClock, count, covers}
+use Rattle.vector_clock.specs.Clock.{IsAtMost, IsClock, count, covers, max_members}
 use Rattle.vector_clock.specs.Stamp.{IsStamp, id_of, is_before, same_id}
 use Rattle.crdt_laws.specs.declared.small.Entry.{Entry}
 use Rattle.crdt_laws.specs.Sets.{IsHonest, IsClosed, has_all_of}
@@ -32,8 +32,8 @@ member_below k i h counted c =
           absurd (omega arith))
     ]
 
-pub member_below_16 : (k : Clock) (i : Id) → IsClock k → 1 ≤ i.seq → covers k i ≡ true → i.member < 16
-member_below_16 k i h counted c = let l : i.member < k.n = member_below k i h counted c in let m : k.n ≤ 16 = h.most in omega arith
+pub member_below_most : (k : Clock) (i : Id) → IsClock k → 1 ≤ i.seq → covers k i ≡ true → i.member < max_members
+member_below_most k i h counted c = let l : i.member < k.n = member_below k i h counted c in let m : k.n ≤ max_members = h.most in omega arith
 
 -- what is ready
 
@@ -59,7 +59,7 @@ ready_closed {Op} xs stamped honest = record { each = each }
         let inside = filter_inside p xs a c in
         let all : has_all_of xs a.stamp.clock ≡ true = filter_passed p xs a c in
         let clock = (stamped a inside).clock in
-        let found = named_in xs i (all_names xs a.stamp.clock all i (member_below_16 a.stamp.clock i clock counted covered) counted covered) in
+        let found = named_in xs i (all_names xs a.stamp.clock all i (member_below_most a.stamp.clock i clock counted covered) counted covered) in
         let b = found.0 in
         let known = covered_knows xs honest a b inside found.1 (subst (λ j. covers a.stamp.clock j ≡ true) (sym found.2) covered) in
         let whole : has_all_of xs b.stamp.clock ≡ true = from_all_names xs b.stamp.clock

@@ -6,7 +6,7 @@ use Rattle.std.proofs.lemmas.Bool.{cases_eq, cases_lt, leb-true, le-leb}
 use Rattle.std.proofs.lemmas.List.{get_or-replicate, get_or-set_same, get_or-set_other, get_or_past}
 use Rattle.vector_clock.specs.declared.clock.Clock.{Clock}
 use Rattle.vector_clock.specs.declared.clock.Id.{Id}
-use Rattle.vector_clock.specs.Clock.{IsAtMost, IsClock, count, covers, join, max_entry, with_entry, zero_clock}
+use Rattle.vector_clock.specs.Clock.{IsAtMost, IsClock, count, covers, join, max_entry, with_entry, zero_clock, max_members}
 use Rattle.vector_clock.specs.Stamp.{id_of}
 use Rattle.vector_clock.proofs.Clocks.{at_most_below, count-clock_by, length-clock_by, n-clock_by}
 use Rattle.crdt_laws.specs.declared.small.Entry.{Entry}
@@ -19,25 +19,25 @@ use Rattle.replica_model.specs.Replica.{version}
 abbrev joined : {Op : Type 0} → Clock → List (Entry Op) → Clock
 joined k xs = fold (λ k e. join k e.stamp.clock) k xs
 
-count-join : (a b : Clock) (m : ℕ) → m < 16 → count (join a b) m ≡ max (count a m) (count b m)
+count-join : (a b : Clock) (m : ℕ) → m < max_members → count (join a b) m ≡ max (count a m) (count b m)
 count-join a b m h = count-clock_by a.n (λ i. max (count a i) (count b i)) m h
 
 n-joined : {Op : Type 0} (k : Clock) (xs : List (Entry Op)) → (joined k xs).n ≡ k.n
 n-joined k [] = refl
 n-joined k (x ∷ xs) = n-joined (join k x.stamp.clock) xs ∙ n-clock_by k.n (λ m. max (count k m) (count x.stamp.clock m))
 
-length-joined : {Op : Type 0} (k : Clock) (xs : List (Entry Op)) → length k.at ≡ 16 → length (joined k xs).at ≡ 16
+length-joined : {Op : Type 0} (k : Clock) (xs : List (Entry Op)) → length k.at ≡ max_members → length (joined k xs).at ≡ max_members
 length-joined k [] h = h
 length-joined k (x ∷ xs) h = length-joined (join k x.stamp.clock) xs (length-clock_by k.n (λ m. max (count k m) (count x.stamp.clock m)))
 
-joined_start : {Op : Type 0} (k : Clock) (xs : List (Entry Op)) (m : ℕ) → m < 16 → count k m ≤ count (joined k xs) m
+joined_start : {Op : Type 0} (k : Clock) (xs : List (Entry Op)) (m : ℕ) → m < max_members → count k m ≤ count (joined k xs) m
 joined_start k [] m h = omega arith
 joined_start k (x ∷ xs) m h =
     let a = count-join k x.stamp.clock m h in
     let b = joined_start (join k x.stamp.clock) xs m h in
     omega (arith, a, b)
 
-joined_each : {Op : Type 0} (k : Clock) (xs : List (Entry Op)) (m : ℕ) → m < 16 → (e : Entry Op) → Contains xs e → count e.stamp.clock m ≤ count (joined k xs) m
+joined_each : {Op : Type 0} (k : Clock) (xs : List (Entry Op)) (m : ℕ) → m < max_members → (e : Entry Op) → Contains xs e → count e.stamp.clock m ≤ count (joined k xs) m
 joined_each k [] m h e c = let l : c.0 < 0 = c.1 in absurd (omega arith)
 joined_each {Op} k (x ∷ xs) m h e c =
     elim (Contains-cases x xs e c) [
@@ -49,7 +49,7 @@ joined_each {Op} k (x ∷ xs) m h e c =
       | inr j ↦ joined_each (join k x.stamp.clock) xs m h e j
     ]
 
-joined_from : {Op : Type 0} (k : Clock) (xs : List (Entry Op)) (m : ℕ) → m < 16
+joined_from : {Op : Type 0} (k : Clock) (xs : List (Entry Op)) (m : ℕ) → m < max_members
     → (count (joined k xs) m ≡ count k m) ⊎ ((e : Entry Op) × Contains xs e × (count (joined k xs) m ≡ count e.stamp.clock m))
 joined_from k [] m h = inl refl
 joined_from {Op} k (x ∷ xs) m h =
@@ -64,9 +64,9 @@ joined_from {Op} k (x ∷ xs) m h =
 
 count-zero_clock : (n m : ℕ) → count (zero_clock n) m ≡ 0
 count-zero_clock n m =
-    elim (cases_lt m 16) [
-      | inl l ↦ get_or-replicate 16 m 0 0 l
-      | inr g ↦ get_or_past (replicate 16 0) m 0 g
+    elim (cases_lt m max_members) [
+      | inl l ↦ get_or-replicate max_members m 0 0 l
+      | inr g ↦ get_or_past (replicate max_members 0) m 0 g
     ]
 
 -- versions
@@ -74,14 +74,14 @@ count-zero_clock n m =
 pub n-version : {Op : Type 0} (n : ℕ) (xs : List (Entry Op)) → (version n xs).n ≡ n
 n-version n xs = n-joined (zero_clock n) xs
 
-pub length-version : {Op : Type 0} (n : ℕ) (xs : List (Entry Op)) → length (version n xs).at ≡ 16
+pub length-version : {Op : Type 0} (n : ℕ) (xs : List (Entry Op)) → length (version n xs).at ≡ max_members
 length-version n xs = length-joined (zero_clock n) xs refl
 
 -- an entry is zero or that of an operation
 pub version_from : {Op : Type 0} (n : ℕ) (xs : List (Entry Op)) (m : ℕ)
     → (count (version n xs) m ≡ 0) ⊎ ((e : Entry Op) × Contains xs e × (count (version n xs) m ≡ count e.stamp.clock m))
 version_from {Op} n xs m =
-    elim (cases_lt m 16) [
+    elim (cases_lt m max_members) [
       | inl l ↦ elim (joined_from (zero_clock n) xs m l) [
         | inl q ↦ inl (q ∙ count-zero_clock n m)
         | inr f ↦ inr f
@@ -111,10 +111,10 @@ module _ {Op : Type 0} (n : ℕ) (xs : List (Entry Op)) (stamped : (e : Entry Op
         | inr f ↦ closed.each f.0 i f.1 counted (le-leb i.seq (count f.0.stamp.clock i.member) (omega (arith, f.2)))
       ]
 
-  pub version_is_clock : 1 ≤ n → n ≤ 16 → IsClock (version n xs)
+  pub version_is_clock : 1 ≤ n → n ≤ max_members → IsClock (version n xs)
   version_is_clock some most = record {
     some = subst (λ (k : ℕ). 1 ≤ k) (sym (n-version n xs)) some;
-    most = subst (λ (k : ℕ). k ≤ 16) (sym (n-version n xs)) most;
+    most = subst (λ (k : ℕ). k ≤ max_members) (sym (n-version n xs)) most;
     wide = length-version n xs;
     bounded = λ m. version_below n xs m max_entry (λ e c. (stamped e c).stamp.clock.bounded m);
     empty_past = λ m h.
@@ -129,13 +129,13 @@ module _ {Op : Type 0} (n : ℕ) (xs : List (Entry Op)) (stamped : (e : Entry Op
 
 -- one more of a member
 
-pub count-with_own : (k : Clock) (m x : ℕ) → length k.at ≡ 16 → m < 16 → count (with_entry k m x) m ≡ x
+pub count-with_own : (k : Clock) (m x : ℕ) → length k.at ≡ max_members → m < max_members → count (with_entry k m x) m ≡ x
 count-with_own k m x wide h = get_or-set_same k.at m x 0 (omega arith)
 
 pub count-with_other : (k : Clock) (m x i : ℕ) → (i ≡ m → ⊥) → count (with_entry k m x) i ≡ count k i
 count-with_other k m x i h = get_or-set_other k.at m i x 0 h
 
-module _ (k : Clock) (me : ℕ) (wide : length k.at ≡ 16) (within : me < 16) where
+module _ (k : Clock) (me : ℕ) (wide : length k.at ≡ max_members) (within : me < max_members) where
   abbrev more : Clock
   more = with_entry k me (count k me + 1)
 

@@ -6,7 +6,7 @@ use Rattle.vector_clock.specs.Clock.{covers}
 use Rattle.vector_clock.specs.Stamp.{IsStamp}
 use Rattle.crdt_laws.specs.declared.small.Entry.{Entry}
 use Rattle.crdt_laws.specs.Tower.{Meaning}
-use Rattle.crdt_laws.specs.Sets.{AreIssued, IsClosed, IsHonest, IsRising, has_name}
+use Rattle.crdt_laws.specs.Sets.{AreIssued, IsClosed, IsHonest, IsRising, has_id}
 use Rattle.replica_model.specs.Replica.{Replica, Batch}
 
 pub data Thing (Op : Type 0) : Type 0 where
@@ -36,7 +36,7 @@ pub record WaitsIn {Op : Type 0} (xs : List (Entry Op)) (e : Entry Op) : Type 0 
   pub name : Id
   pub counted : 1 ≤ name.seq
   pub covered : IsTrue (covers e.stamp.clock name)
-  pub absent : has_name xs name ≡ false
+  pub absent : has_id xs name ≡ false
 
 -- a replica of a document with n members: what is delivered is closed, what waits is not delivered and has cause to wait
 pub record IsSoundReplica {Op : Type 0} (n : ℕ) (r : Replica Op) : Type 0 where

@@ -6,7 +6,7 @@ use Rattle.vector_clock.specs.Clock.{count, covers, join, meet, with_entry, zero
 use Rattle.vector_clock.specs.Stamp.{id_of}
 use Rattle.crdt_laws.specs.declared.small.Entry.{Entry}
 use Rattle.crdt_laws.specs.Entry.{entry}
-use Rattle.crdt_laws.specs.Sets.{has_all_of, place, together}
+use Rattle.crdt_laws.specs.Sets.{has_all_of, place, union}
 
 pub record Replica (Op : Type 0) : Type 0 where
   -- the text of the document's schema
@@ -79,7 +79,7 @@ exported r to =
 
 -- all operations that the replica has once the batch has come
 unfoldable pub pooled : {Op : Type 0} → Replica Op → Batch Op → List (Entry Op)
-pooled r b = together (together r.delivered r.waiting) b.ops
+pooled r b = union (union r.delivered r.waiting) b.ops
 
 -- those that know only of operations among them, and the others
 abbrev pub ready : {Op : Type 0} → List (Entry Op) → List (Entry Op)

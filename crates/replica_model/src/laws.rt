@@ -1,7 +1,7 @@
 //! What merges leave, and what keeps a family honest. Each law is the contract of a function that does nothing.
 ghost use Rattle.std.specs.Prelude.{◌≡◌, ◌≢◌, ℕ, ◌<◌, ◌≤◌, List, [], ◌∷◌, ◌++◌, ◌↔◌, ◌==◌, Option, count_by};
 ghost use Rattle.std.specs.List.{All, Contains};
-ghost use Rattle.vector_clock.specs.Clock.{IsAtMost, count};
+ghost use Rattle.vector_clock.specs.Clock.{IsAtMost, count, max_members};
 ghost use Rattle.crdt_laws.specs.declared.small.Entry.{Entry};
 ghost use Rattle.crdt_laws.specs.Sets.{IsClosed, IsHonest};
 ghost use Rattle.replica_model.specs.Replica.{Replica, Batch, edited, exported, merged, new_replica, next_stamp, version};
@@ -43,7 +43,7 @@ pub fn family_begins<T: Tower>(tower: &T)
 
 /// An honest family stays honest when a member edits its replica by a valid operation, or merges a batch of the family.
 pub fn family_goes_on<T: Tower>(tower: &T)
-    ensures edited { (n : ℕ) (xs ys : List (Thing T.Op)) (r : Replica T.Op) (op : T.Op) → n ≤ 16 → IsHonestFamily (T.meaning tower.now) n (xs ++ replica r ∷ ys)
+    ensures edited { (n : ℕ) (xs ys : List (Thing T.Op)) (r : Replica T.Op) (op : T.Op) → n ≤ max_members → IsHonestFamily (T.meaning tower.now) n (xs ++ replica r ∷ ys)
         → (T.meaning tower.now).valid (next_stamp r) op → IsHonestFamily (T.meaning tower.now) n (xs ++ replica (edited r op) ∷ ys) }
     ensures merged { (n : ℕ) (xs ys : List (Thing T.Op)) (r : Replica T.Op) (b : Batch T.Op) → IsHonestFamily (T.meaning tower.now) n (xs ++ replica r ∷ ys)
         → Contains (xs ++ replica r ∷ ys) (batch b) → IsHonestFamily (T.meaning tower.now) n (xs ++ replica (merged r b) ∷ ys) }

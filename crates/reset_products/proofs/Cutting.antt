@@ -7,7 +7,7 @@ use Rattle.std.proofs.lemmas.List.{get_or-take}
 use Rattle.std.proofs.lemmas.List.Elements.{All-from_recursion, recursion_from_All}
 use Rattle.vector_clock.specs.declared.clock.Clock.{Clock}
 use Rattle.vector_clock.specs.declared.stamp.Stamp.{Stamp}
-use Rattle.vector_clock.specs.Clock.{IsClock, count, covers, meet}
+use Rattle.vector_clock.specs.Clock.{IsClock, count, covers, meet, max_members}
 use Rattle.vector_clock.specs.Stamp.{id_of, is_before, same_id}
 use Rattle.vector_clock.proofs.Bounds.{meet_clock}
 use Rattle.vector_clock.proofs.Clocks.{count-clock_by, n-clock_by}
@@ -15,11 +15,12 @@ use Rattle.vector_clock.proofs.Keys.{before_covers}
 use Rattle.crdt_laws.specs.declared.small.Entry.{Entry}
 use Rattle.crdt_laws.specs.Sets.{AreApart}
 use Rattle.crdt_laws.specs.Tower.{IsStampOf}
-use Rattle.crdt_laws.proofs.Filters.{all_true, all_weaker, true_all}
+use Rattle.crdt_laws.proofs.Filters.{all_true, true_all}
 use Rattle.crdt_laws.proofs.Ready.{drop_item}
 use Rattle.weave_core.proofs.Placed.{all_drop, all_take}
 use Rattle.reset_products.specs.Cut.{clean_cut, greatest, is_clean_prefix}
 use Rattle.reset_products.specs.CutLaws.{IsClean, clean_from, clean_to, greatest_at, greatest_skip, length-take_cut}
+use Rattle.vector_clock.proofs.Ordered.{all_weaker}
 
 -- whether the clock and all of ys know of the operation at p
 abbrev pub know : {Op : Type 0} → Clock → List (Entry Op) → Stamp → Bool
@@ -29,7 +30,7 @@ know k ys p = covers k (id_of p) && list_all (λ y. covers y.stamp.clock (id_of 
 pub record KnowsAs {Op : Type 0} (k : Clock) (ys : List (Entry Op)) (known : Clock) : Type 0 where
   pub clock : IsClock known
   pub members : known.n ≡ k.n
-  pub same : (p : Stamp) → p.member < 16 → covers known (id_of p) ≡ know k ys p
+  pub same : (p : Stamp) → p.member < max_members → covers known (id_of p) ≡ know k ys p
 
 -- The operations from i on are passed, and the longest clean prefix ends at cut or before i.
 pub record IsCutting {Op : Type 0} (k : Clock) (log : List (Entry Op)) (i cut : ℕ) (known met : Clock) : Type 0 where
@@ -40,7 +41,7 @@ pub record IsCutting {Op : Type 0} (k : Clock) (log : List (Entry Op)) (i cut : 
   pub passed : AllByRecursion (λ e. covers known (id_of e.stamp) ≡ true) (take (cut - i) (drop i log))
   pub rest : clean_cut log k ≡ greatest (is_clean_prefix k log) cut
 
-covers-meet : (a b : Clock) (p : Stamp) → p.member < 16 → covers (meet a b) (id_of p) ≡ (covers a (id_of p) && covers b (id_of p))
+covers-meet : (a b : Clock) (p : Stamp) → p.member < max_members → covers (meet a b) (id_of p) ≡ (covers a (id_of p) && covers b (id_of p))
 covers-meet a b p h =
     let e : count (meet a b) p.member ≡ min (count a p.member) (count b p.member) = count-clock_by a.n (λ m. min (count a m) (count b m)) p.member h in
     grind (arith, nat_tests)
@@ -140,7 +141,7 @@ module _ {Op : Type 0} (k : Clock) (log : List (Entry Op)) where
     pub cutting_off : covers known (id_of e.stamp) ≡ false → IsCutting k log j j (meet met e.stamp.clock) (meet met e.stamp.clock)
     cutting_off c =
         let low : j ≤ cut = (let a : i ≤ cut = h.order in omega arith) in
-        let member : e.stamp.member < 16 = (let a : e.stamp.member < e.stamp.clock.n = s.stamp.member in let b : e.stamp.clock.n ≤ 16 = s.stamp.clock.most in omega arith) in
+        let member : e.stamp.member < max_members = (let a : e.stamp.member < e.stamp.clock.n = s.stamp.member in let b : e.stamp.clock.n ≤ max_members = s.stamp.clock.most in omega arith) in
         record {
           order = omega arith;
           within = omega arith;
@@ -172,7 +173,7 @@ module _ {Op : Type 0} (k known : Clock) (ys : List (Entry Op)) (h : KnowsAs k y
   clean_passed : (xs : List (Entry Op)) → AllByRecursion (λ x. covers known (id_of x.stamp) ≡ true) xs → AllByRecursion (λ x. IsStampOf k.n x.stamp) xs → AllByRecursion (λ x. AllByRecursion (λ y. same_id x.stamp y.stamp ≡ false) ys) xs → IsClean k xs ys
   clean_passed [] c s d = tt
   clean_passed (x ∷ xs) c s d =
-      let member : x.stamp.member < 16 = (let a : x.stamp.member < x.stamp.clock.n = s.0.stamp.member in let b : x.stamp.clock.n ≤ 16 = s.0.stamp.clock.most in omega arith) in
+      let member : x.stamp.member < max_members = (let a : x.stamp.member < x.stamp.clock.n = s.0.stamp.member in let b : x.stamp.clock.n ≤ max_members = s.0.stamp.clock.most in omega arith) in
       let all : know k ys x.stamp ≡ true = sym (h.same x.stamp member) ∙ c.0 in
       let two = and_parts (covers k (id_of x.stamp)) (list_all (λ y. covers y.stamp.clock (id_of x.stamp)) ys) all in
       ((two.0, befores x.stamp ys (all_true (λ (y : Entry Op). covers y.stamp.clock (id_of x.stamp)) ys two.1) d.0), clean_passed xs c.1 s.1 d.1)

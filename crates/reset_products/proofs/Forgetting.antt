@@ -13,7 +13,7 @@ use Rattle.crdt_laws.specs.Entry.{entry}
 use Rattle.crdt_laws.specs.Present.{apply_all}
 use Rattle.crdt_laws.specs.Sets.{AreApart, IsCausal, canonical, place}
 use Rattle.crdt_laws.specs.Tower.{Meaning}
-use Rattle.crdt_laws.proofs.Filters.{all-filter, apart-filter}
+use Rattle.crdt_laws.proofs.Filters.{apart-filter}
 use Rattle.crdt_laws.proofs.Place.{place_swap, rising-canonical}
 use Rattle.crdt_laws.proofs.Seams.{apart_before, pairs_before}
 use Rattle.weave_core.specs.Deliver.{is_outside}
@@ -22,6 +22,7 @@ use Rattle.reset_products.specs.declared.observed.ObservedOp.{ObservedOp}
 use Rattle.reset_products.specs.declared.observed.ObservedOp.TheVariants.{Do, Reset}
 use Rattle.reset_products.specs.Observed.{Logged, observed_apply, observed_meaning}
 use Rattle.reset_products.specs.Forgotten.{forgets, operation_and, operations_of, unforgotten}
+use Rattle.vector_clock.proofs.Ordered.{all-filter}
 
 -- canonical lists
 

@@ -10,11 +10,11 @@ use Rattle.crdt_laws.specs.declared.small.Entry.{Entry}
 use Rattle.crdt_laws.specs.Tower.{Meaning, IsIssued, IsLawful, IsState}
 use Rattle.weave_core.specs.Deliver.{IsRun}
 use Rattle.weave_core.proofs.Placed.{all_take, apart-take, rising-take}
-use Rattle.crdt_laws.proofs.Filters.{all_weaker}
 use Rattle.reset_products.specs.Cut.{IsCleanPrefix, clean_cut, is_clean_prefix}
 use Rattle.reset_products.specs.CutLaws.{IsClean, clean_from, clean_to, cut_clean, cut_within}
 use Rattle.reset_products.specs.Observed.{IsGoodLog, Logged, value_of}
 use Rattle.reset_products.specs.ObservedLaws.{value_good}
+use Rattle.vector_clock.proofs.Ordered.{all_weaker}
 
 -- a clean prefix as a fact
 

@@ -13,7 +13,6 @@ use Rattle.crdt_laws.specs.Entry.{entry}
 use Rattle.crdt_laws.specs.Present.{acted, acted_by, acting, acts_at, apply_all, document, forms, own_forms, present, with_next}
 use Rattle.crdt_laws.specs.Sets.{AreApart, IsCausal}
 use Rattle.crdt_laws.specs.Tower.{Meaning, IsIssued, IsLawful}
-use Rattle.crdt_laws.proofs.Filters.{all-filter}
 use Rattle.crdt_laws.proofs.Forms.{present-stamp}
 use Rattle.crdt_laws.proofs.Loops.{acting_low}
 use Rattle.crdt_laws.proofs.Ready.{next_issued}
@@ -25,6 +24,7 @@ use Rattle.weave_core.proofs.Placed.{filter_none}
 use Rattle.weave_core.proofs.Split.{apply_all-append, own_forms-append}
 use Rattle.reset_products.specs.Untouched.{WinningOp, is_win, real_and, reals_of, touches, untouched, winning_meaning}
 use Rattle.crdt_laws.proofs.Seams.{apart_before, pairs_before}
+use Rattle.vector_clock.proofs.Ordered.{all-filter}
 
 -- the operations of the tower
 

@@ -12,12 +12,13 @@ use Rattle.vector_clock.specs.Clock.{IsAtMost, count, covers}
 use Rattle.vector_clock.specs.Stamp.{IsAfter, id_of, is_before, is_below, same_id}
 use Rattle.crdt_laws.specs.declared.small.Entry.{Entry}
 use Rattle.crdt_laws.specs.Sets.{place}
-use Rattle.crdt_laws.proofs.Filters.{all-place, all_true, all_weaker, true_all}
+use Rattle.crdt_laws.proofs.Filters.{all-place, all_true, true_all}
 use Rattle.vector_clock.proofs.Causal.{covers_past}
 use Rattle.vector_clock.proofs.Keys.{below_known, covers_more, key_asym}
 use Rattle.std.proofs.lemmas.Bool.Decides.{nat_tests}
 use Rattle.weave_core.proofs.Placed.{all_drop}
 use Rattle.reset_products.specs.Cut.{clean_cut, greatest, is_clean, is_clean_prefix}
+use Rattle.vector_clock.proofs.Ordered.{all_weaker}
 
 -- the greatest number that passes a test
 

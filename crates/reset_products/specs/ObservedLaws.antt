@@ -11,13 +11,13 @@ use Rattle.vector_clock.specs.Clock.{IsAtMost, covers}
 use Rattle.vector_clock.specs.Stamp.{IsAfter, are_concurrent, id_of, is_before, same_id}
 use Rattle.vector_clock.proofs.Causal.{covers_past}
 use Rattle.vector_clock.proofs.Bounds.{at_most_refl, at_most_trans}
-use Rattle.vector_clock.proofs.Keys.{concurrent_other, concurrent_sym, covered_known, covers_more, names_other}
+use Rattle.vector_clock.proofs.Keys.{concurrent_other, concurrent_sym, covered_known, covers_more, ids_other}
 use Rattle.crdt_laws.specs.declared.small.Entry.{Entry}
 use Rattle.crdt_laws.specs.Entry.{entry}
 use Rattle.crdt_laws.specs.Present.{document_from}
 use Rattle.crdt_laws.specs.Sets.{AreIssued, place}
 use Rattle.crdt_laws.specs.Tower.{Meaning, IsLawful, IsIssued, IsWithin, Lacks, Agrees, MaySwap}
-use Rattle.crdt_laws.proofs.Filters.{all-filter, all-place, all_pass, all_weaker, apart-filter, rising-filter}
+use Rattle.crdt_laws.proofs.Filters.{all-place, all_pass, apart-filter, rising-filter}
 use Rattle.crdt_laws.proofs.Members.{at_member, each}
 use Rattle.crdt_laws.proofs.Place.{place_swap, rising-place}
 use Rattle.weave_core.specs.Deliver.{is_outside}
@@ -29,6 +29,7 @@ use Rattle.reset_products.specs.declared.observed.ObservedOp.TheVariants.{Do, Re
 use Rattle.reset_products.specs.Cut.{clean_cut}
 use Rattle.reset_products.specs.CutLaws.{AreWithin, IsClean, cut_clean, cut_none, left-place, left_twice, settled-place, settled_twice}
 use Rattle.reset_products.specs.Observed.{IsGoodLog, IsGoodLogAt, IsLoggedAs, Logged, folded, observed_apply, observed_meaning, observed_settle, observed_valid, observed_well_formed, value_of}
+use Rattle.vector_clock.proofs.Ordered.{all-filter, all_weaker}
 
 -- the stamps of a log
 
@@ -88,7 +89,7 @@ module _ {S O : Type 0} (m : Meaning S O) where
   log_within s k h = all_weaker (λ (e : Entry O). IsLoggedAs s.log e.stamp) (λ e. covers k (id_of e.stamp) ≡ true → IsAtMost e.stamp.clock k) (λ e i c. h.each e.stamp i c) s.log (each_logged s.log)
 
   log_apart : (s : Logged S O) (p : Stamp) → Lacks (observed_meaning m) s (id_of p) → AllByRecursion (λ e. same_id p e.stamp ≡ false) s.log
-  log_apart s p h = all_weaker (λ (e : Entry O). IsLoggedAs s.log e.stamp) (λ e. same_id p e.stamp ≡ false) (λ e i. names_other p e.stamp (λ q. h.none e.stamp i q)) s.log (each_logged s.log)
+  log_apart s p h = all_weaker (λ (e : Entry O). IsLoggedAs s.log e.stamp) (λ e. same_id p e.stamp ≡ false) (λ e i. ids_other p e.stamp (λ q. h.none e.stamp i q)) s.log (each_logged s.log)
 
   do_issued : (n : ℕ) (p : Stamp) (x : O) → IsIssued (observed_meaning m) n p (Do x) → IsIssued m n p x
   do_issued n p x h = record { stamp = h.stamp; valid = h.valid }

@@ -15,12 +15,12 @@ use Rattle.crdt_laws.specs.Document.{MayFollow}
 use Rattle.crdt_laws.specs.Entry.{entry}
 use Rattle.crdt_laws.specs.Present.{acted, apply_all, document_from, own_forms, present, with_next}
 use Rattle.crdt_laws.specs.Tower.{Meaning, IsIssued, IsLawful, Lacks}
-use Rattle.crdt_laws.proofs.Filters.{all-filter}
 use Rattle.crdt_laws.proofs.Acts
 use Rattle.crdt_laws.proofs.Ready.{IsReady, drop_item, left_next, may_follow, ready_next}
 use Rattle.weave_core.specs.Deliver.{IsRun, is_high, kept_with}
 use Rattle.weave_core.proofs.Kept
 use Rattle.weave_core.proofs.Kept.{present-kept}
+use Rattle.vector_clock.proofs.Ordered.{all-filter}
 
 -- The operations xs are left, h are the kept forms of those before them, and the state s with xs gives d.
 pub record IsOnTheWay {State Op : Type 0} (m : Meaning State Op) (s : State) (h xs : List (Entry Op)) (d : State) : Type 0 where

@@ -5,7 +5,8 @@ use Rattle.vector_clock.specs.Stamp.{is_below, same_id}
 use Rattle.vector_clock.proofs.Keys.{key_trans, same_id_other}
 use Rattle.crdt_laws.specs.declared.small.Entry.{Entry}
 use Rattle.crdt_laws.specs.Sets.{AreApart, IsRising, place}
-use Rattle.crdt_laws.proofs.Filters.{all-filter, all-place, all_weaker}
+use Rattle.crdt_laws.proofs.Filters.{all-place}
+use Rattle.vector_clock.proofs.Ordered.{all-filter, all_weaker}
 
 pub filter_twice : {X : Type 0} (p q : X → Bool) → ((x : X) → p x ≡ true → q x ≡ true) → (l : List X) → filter p (filter q l) ≡ filter p l
 filter_twice p q h [] = refl

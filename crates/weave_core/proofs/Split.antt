@@ -7,8 +7,9 @@ use Rattle.vector_clock.specs.Stamp.{are_concurrent, is_before}
 use Rattle.crdt_laws.specs.declared.small.Entry.{Entry}
 use Rattle.crdt_laws.specs.Present.{acted, acted_by, acting, acts_at, apply_all, document_from, forms, own_forms, present, with_next}
 use Rattle.crdt_laws.specs.Tower.{Meaning}
-use Rattle.crdt_laws.proofs.Filters.{all-append, all-map, all_weaker}
+use Rattle.crdt_laws.proofs.Filters.{all-append, all-map}
 use Rattle.crdt_laws.proofs.Forms.{present-stamp}
+use Rattle.vector_clock.proofs.Ordered.{all_weaker}
 
 pub before_not_concurrent : (a b : Stamp) → is_before a b ≡ true → are_concurrent a b ≡ false
 unfolding are_concurrent

@@ -11,14 +11,14 @@ use Rattle.crdt_laws.specs.Sets.{place}
 use Rattle.weave_model.proofs.Filters.{all-filter}
 use Rattle.std.proofs.Common.{inl, inr}
 use Rattle.vector_clock.specs.Stamp.{id_of, same_id}
-use Rattle.vector_clock.proofs.Keys.{other_names}
+use Rattle.vector_clock.proofs.Keys.{other_ids}
 use Rattle.crdt_laws.specs.Tower.{Lacks}
 
 -- applying an operation adds no other name to those that a state holds
 pub lacks-apply : {State Op : Type 0} (t : Meaning State Op) (law : IsLawful t) (s : State) (p q : Stamp) (x : Op) → Lacks t s (id_of q) → same_id p q ≡ false → Lacks t (t.apply s p x) (id_of q)
 lacks-apply t law s p q x f d = record {
   none = λ b h same. elim (law.holds-apply s p x b h) [
-    | inl e ↦ other_names p q d (sym same ∙ ap id_of e)
+    | inl e ↦ other_ids p q d (sym same ∙ ap id_of e)
     | inr a ↦ f.none b a same
   ];
 }

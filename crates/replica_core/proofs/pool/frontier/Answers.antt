@@ -26,7 +26,7 @@ loop-e-preserved g c =
     elim c.if-id-count.branch [
       | then-id-count w ↦
           (let is : c.if-id-count.front ≡ with_entry k e.stamp.member (count e.stamp.clock e.stamp.member) =
-          w.front-is ∙ w.with-front.ensures ∙ ap (λ (j : Id). with_entry k j.member j.seq) id in
+          w.front-is ∙ w.with-front.ensures.made ∙ ap (λ (j : Id). with_entry k j.member j.seq) id in
           record {
             frontier = more c.if-id-count.front (is ∙ counted_hit k e (sym seq ∙ w.if-id-count.true ∙ next));
             known = subst (IsKnown n) (sym is) (known-counted n k e c.loop-e.invariant.known from);

@@ -1,15 +1,15 @@
 use Rattle.std.proofs.Common.{◌++◌, ◌≡◌, ◌∙◌, Contains, ap, not, subst, sym}
 use Rattle.std.specs.List.{All, filter}
 use Rattle.std.proofs.lemmas.Result.{IfOk-weaker}
-use Rattle.crdt_laws.specs.Sets.{IsHonest, together}
+use Rattle.crdt_laws.specs.Sets.{IsHonest, union}
 use Rattle.replica_model.specs.Replica.{ready, unready}
 use Rattle.replica_core.specs.Frontier.{frontier, is_at_most}
 use Rattle.replica_core.specs.Rows.{AreByKey, IsFrom}
 use Rattle.replica_core.proofs.Gathered.{IsLess, by_key-filter, from_once, honest_less, less_filter, less_twice, ok_both, pooled_is, ready_is, stamps, unready_is}
 use Rattle.replica_core.proofs.pool.sift.Goals as goal
 
-pub together-requires-2-clause-left_stamps : goal.together-requires-2-clause-left_stamps
-together-requires-2-clause-left_stamps g c =
+pub union-requires-2-clause-left_stamps : goal.union-requires-2-clause-left_stamps
+union-requires-2-clause-left_stamps g c =
     stamps c.args.n c.in_ok-own.own (from_once c.args.n c.args.delivered c.args.waiting c.in_ok-own.own c.in_ok-own.ensures.from c.requires.delivered.from c.requires.waiting.from)
 
 pub frontier-front-requires-clause-ops : goal.frontier-front-requires-clause-ops
@@ -48,7 +48,7 @@ returns g c =
     } in
     record {
       sifted =
-          IfOk-weaker r _ (λ x. IsHonest total → (x.0 ≡ ready (together (together d w) a)) × (x.1 ≡ unready (together (together d w) a)))
+          IfOk-weaker r _ (λ x. IsHonest total → (x.0 ≡ ready (union (union d w) a)) × (x.1 ≡ unready (union (union d w) a)))
           (λ x h honest.
           (let fair : IsHonest all = honest_less all total less honest in
           let pooled = pooled_is d w a own all c.in_ok-own.ensures.from c.in_ok-own.ensures.joined c.in_ok-all.ensures.joined honest in (

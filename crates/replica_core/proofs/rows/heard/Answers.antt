@@ -20,7 +20,7 @@ loop-e-preserved g c =
     let one : e.stamp.clock.n ≡ n = from.stamp.members in
     let member : j < length rows = subst (λ k. j < k) (one ∙ sym c.loop-e.invariant.len) from.stamp.stamp.member in
     let is : c.with_row-heard.result ≡ heard_op rows e =
-    c.with_row-heard.ensures ∙ ap (set rows j) (c.join-joined.ensures ∙ ap (λ k. join k e.stamp.clock) c.row.ensures) in
+    c.with_row-heard.ensures ∙ ap (set rows j) (c.join-joined.ensures.made ∙ ap (λ k. join k e.stamp.clock) c.row.ensures) in
     record {
       heard = fold_item heard_op c.args.rows c.args.ops.now c.loop-e.e-index e rows c.with_row-heard.result c.loop-e-test.true c.e-item.is c.loop-e.invariant.heard is;
       len = ap length is ∙ length-set rows j (join (row rows j) e.stamp.clock) ∙ c.loop-e.invariant.len;

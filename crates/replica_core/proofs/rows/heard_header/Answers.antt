@@ -12,5 +12,5 @@ returns-then-count-clause-known c =
     let n = length c.args.rows in
     let rows = c.args.rows in
     let j = c.args.sender in
-    subst (All (IsKnown n)) (sym (c.with_row.ensures ∙ ap (set rows j) (c.join-joined.ensures ∙ ap (λ k. join k c.args.header.now) c.row.ensures)))
+    subst (All (IsKnown n)) (sym (c.with_row.ensures ∙ ap (set rows j) (c.join-joined.ensures.made ∙ ap (λ k. join k c.args.header.now) c.row.ensures)))
     (with_row_known (IsKnown n) (known-join n) rows j c.args.header.now c.requires.rows c.requires.header c.requires.sender)

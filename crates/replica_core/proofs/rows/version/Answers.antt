@@ -14,6 +14,6 @@ loop-e-preserved g c =
     let k = c.loop-e.known in
     let from : IsFrom n e = item_of (IsFrom n) c.args.ops.now c.loop-e.e-index e c.requires.ops c.loop-e-test.true c.e-item.is in
     record {
-      version = fold_item (λ j d. join j d.stamp.clock) (zero_clock n) c.args.ops.now c.loop-e.e-index e k c.join-known.result c.loop-e-test.true c.e-item.is c.loop-e.invariant.version c.join-known.ensures;
-      known = subst (IsKnown n) (sym c.join-known.ensures) (known-join n k e.stamp.clock c.loop-e.invariant.known (known_clock n e from));
+      version = fold_item (λ j d. join j d.stamp.clock) (zero_clock n) c.args.ops.now c.loop-e.e-index e k c.join-known.result c.loop-e-test.true c.e-item.is c.loop-e.invariant.version c.join-known.ensures.made;
+      known = subst (IsKnown n) (sym c.join-known.ensures.made) (known-join n k e.stamp.clock c.loop-e.invariant.known (known_clock n e from));
     }

@@ -1,8 +1,8 @@
-use Rattle.crdt_laws.proofs.Filters.{all-filter, all_weaker}
 use Rattle.vector_clock.specs.Stamp.{IsStamp}
 use Rattle.register_crdts.specs.Several.{is_unknown}
 use Rattle.register_crdts.specs.SeveralLaws.{rising-filter}
 use Rattle.register_crdts.proofs.several.SeveralTower.apply.Goals as goal
+use Rattle.vector_clock.proofs.Ordered.{all-filter, all_weaker}
 
 pub with_held-requires-clause-stamps : goal.with_held-requires-clause-stamps
 with_held-requires-clause-stamps c =

@@ -6,6 +6,7 @@ use Rattle.replica_core.specs.Kept.{IsBatchUpTo, IsKept, IsKeptBatch, IsReplicaU
 use Rattle.replica_core.specs.Rows.{AreByKey, IsFrom}
 use Rattle.replica_core.proofs.Merge.{AreSifted, by_key, kept_settled, length-rows_after, low_members, settled, settled_from, settled_is, up_to_settled}
 use Rattle.replica_core.proofs.replica.Replica.merge.Goals as goal
+use Rattle.vector_clock.specs.Clock.{max_members}
 
 pub sift-requires : goal.sift-requires
 sift-requires g c =
@@ -19,7 +20,7 @@ sift-requires g c =
     let len = sym c.len.ensures in
     record {
       some = subst (λ n. 1 ≤ n) len (omega (arith, kept.member));
-      most = subst (λ n. n ≤ 16) len kept.most;
+      most = subst (λ n. n ≤ max_members) len kept.most;
       delivered = subst (λ n. AreByKey n p.delivered) len (by_key t law (members p) p.delivered kept.delivered);
       waiting = subst (λ n. AreByKey n p.waiting) len (by_key t law (members p) p.waiting kept.waiting);
       arrived = subst (λ n. AreByKey n q.ops) len (by_key t law (members p) q.ops came.ops);

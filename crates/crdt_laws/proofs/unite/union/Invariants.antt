@@ -3,7 +3,7 @@ use Rattle.std.specs.List.{All}
 use Rattle.std.specs.VecDeque.{deque_len}
 use Rattle.vector_clock.specs.Stamp.{IsStamp}
 use Rattle.crdt_laws.specs.Interleaved.{interleaved}
-use Rattle.crdt_laws.proofs.union.together.Given as goal
+use Rattle.crdt_laws.proofs.unite.union.Given as goal
 
 abbrev pub invariant-loop-right : goal.invariant-loop-right
 invariant-loop-right g l = record {

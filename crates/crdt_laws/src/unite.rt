@@ -1,15 +1,14 @@
 ghost use Rattle.std.specs.Prelude.{◌≡◌, ◌+◌, ◌<◌, ◌++◌, ◌∷◌, [], ◌⊎◌, IfOk, List, OnOk, drop};
 ghost use Rattle.std.specs.List.{All, Contains};
 ghost use Rattle.std.specs.VecDeque.{deque_len};
-ghost use Rattle.vector_clock.specs.Stamp.{IsStamp, is_less};
+ghost use Rattle.vector_clock.specs.Stamp.{IsStamp};
 ghost use Rattle.crdt_laws.specs.declared.small.Entry.{Entry};
 ghost use Rattle.crdt_laws.specs.Interleaved.{interleaved};
-ghost use Rattle.crdt_laws.specs.Sets.{IsHonest, IsRising, together};
+ghost use Rattle.crdt_laws.specs.Sets.{IsHonest, IsRising, union};
 
 use crate::small::{Entry, NoMemory, Ops};
 use std::alloc::Global;
 use std::collections::VecDeque;
-use vector_clock::Key;
 
 /// Moves the first entry, where there is one, to the end of the list.
 fn move_front<Op: Drop>(from: &mut VecDeque<Entry<Op>>, to: &mut Ops<Op>) -> Result<(), NoMemory>
@@ -21,14 +20,6 @@ fn move_front<Op: Drop>(from: &mut VecDeque<Entry<Op>>, to: &mut Ops<Op>) -> Res
         Some(e) => to.push(e.stamp, e.op),
         None => Ok(()),
     }
-}
-
-/// Whether the first key is less.
-#[tactic(auto, unfolding(vector_clock::specs::Stamp::is_less))]
-fn is_less(a: &Key, b: &Key) -> bool
-    ensures { result ≡ is_less a.now b.now }
-{
-    a < b
 }
 
 /// Moves the first entry of the lesser key to the end of the list. Where both keys are equal the first one moves, and the
@@ -50,11 +41,9 @@ fn move_next<Op: Drop>(
     let (Some(x), Some(y)) = (left.front(), right.front()) else {
         return Ok(());
     };
-    let first = x.stamp.key();
-    let second = y.stamp.key();
-    if is_less(&first, &second) {
+    if x.stamp.below(&y.stamp) {
         move_front(left, joined)
-    } else if is_less(&second, &first) {
+    } else if y.stamp.below(&x.stamp) {
         move_front(right, joined)
     } else {
         right.pop_front();
@@ -74,13 +63,13 @@ fn move_all<Op: Drop>(from: VecDeque<Entry<Op>>, to: &mut Ops<Op>) -> Result<(),
 
 /// The operations of two sets as one, by rising key. Each set is given by rising key. Where both hold one operation it
 /// stands once. Only want of memory is refused. It takes one pass over both.
-pub fn together<Op: Drop>(alloc: Global, xs: Ops<Op>, ys: Ops<Op>) -> Result<Ops<Op>, NoMemory>
+pub fn union<Op: Drop>(alloc: Global, xs: Ops<Op>, ys: Ops<Op>) -> Result<Ops<Op>, NoMemory>
     requires left_rises { IsRising xs }
     requires right_rises { IsRising ys }
     requires left_stamps { All (λ e. IsStamp e.stamp) xs }
     requires right_stamps { All (λ e. IsStamp e.stamp) ys }
     ensures interleaved { IfOk result (λ r. r ≡ interleaved xs ys) }
-    ensures joined { IfOk result (λ r. IsHonest (xs ++ ys) → r ≡ together xs ys) }
+    ensures joined { IfOk result (λ r. IsHonest (xs ++ ys) → r ≡ union xs ys) }
     ensures rises { IfOk result (λ r. IsRising r) }
     ensures from { IfOk result (λ r. (e : Entry Op) → Contains r e → Contains xs e ⊎ Contains ys e) }
     ensures stamps { IfOk result (λ r. All (λ e. IsStamp e.stamp) r) }

@@ -4,10 +4,10 @@ use Rattle.crdt_laws.specs.Interleaved.{interleaved}
 use Rattle.crdt_laws.specs.Sets.{IsRising}
 use Rattle.vector_clock.specs.Stamp.{IsStamp}
 use Rattle.crdt_laws.proofs.Both.{all_of_both}
-use Rattle.crdt_laws.proofs.Interleave.{emptied, interleaved_from_both, interleaved_together, last_step, rising-interleaved}
-use Rattle.crdt_laws.proofs.union.together.Given as given
-use Rattle.crdt_laws.proofs.union.together.Goals as goal
-use Rattle.crdt_laws.proofs.union.together.Goals.{then-loop-right-test+else-not-is_empty, else-loop-right-test}
+use Rattle.crdt_laws.proofs.Interleave.{emptied, interleaved_from_both, interleaved_union, last_step, rising-interleaved}
+use Rattle.crdt_laws.proofs.unite.union.Given as given
+use Rattle.crdt_laws.proofs.unite.union.Goals as goal
+use Rattle.crdt_laws.proofs.unite.union.Goals.{then-loop-right-test+else-not-is_empty, else-loop-right-test}
 
 all_in : (g : given.Over) (c : goal.In_ok-move_all-2 g) → c.move_all-2.new.to ≡ interleaved c.args.xs c.args.ys
 all_in g c =
@@ -25,7 +25,7 @@ pub returns-clause-rises : goal.returns-clause-rises
 returns-clause-rises g c = subst IsRising (sym (all_in g c)) (rising-interleaved c.args.xs c.args.ys c.requires.left_rises c.requires.right_rises)
 
 pub returns-clause-joined : goal.returns-clause-joined
-returns-clause-joined g c = λ h. all_in g c ∙ interleaved_together c.args.xs c.args.ys c.requires.left_rises c.requires.right_rises h
+returns-clause-joined g c = λ h. all_in g c ∙ interleaved_union c.args.xs c.args.ys c.requires.left_rises c.requires.right_rises h
 
 pub returns-clause-from : goal.returns-clause-from
 returns-clause-from g c = λ e k. interleaved_from_both c.args.xs c.args.ys e (subst (λ l. Contains l e) (all_in g c) k)
