@@ -1,4 +1,4 @@
--- The operations of two sets as one list.
+-- The union of two sets of operations.
 use Rattle.std.proofs.Common.{◌≡◌, true, false, not, List, [], ◌∷◌, ◌++◌, cond, refl, arith, ◌⊎◌, ◌↔◌, inl, inr, subst, All, Contains}
 use Rattle.std.specs.List.{AllByRecursion, filter}
 use Rattle.std.proofs.lemmas.Bool.{false_from_ne_true}
@@ -27,7 +27,7 @@ honest_swap xs ys h = honest_part (xs ++ ys) (ys ++ xs) h (λ e c. elim (Contain
   | inr i ↦ Contains-append_left xs ys e i
 ])
 
--- names
+-- ids
 
 has_id-front : {Op : Type 0} (a : Entry Op) (xs : List (Entry Op)) (p : Stamp) → same_id a.stamp p ≡ true → has_id (a ∷ xs) (id_of p) ≡ true
 unfolding same_id
@@ -47,7 +47,7 @@ has_id-from {Op} xs a p c h = at_member (λ (e : Entry Op). same_id e.stamp p �
     go [] = tt
     go (b ∷ l) = (has_id-front b l p, all_weaker _ (λ e. same_id e.stamp p ≡ true → has_id (b ∷ l) (id_of p) ≡ true) (λ e k h. has_id-behind b l p (k h)) l (go l))
 
--- who has the name
+-- which operation has the id
 has_id-who : {Op : Type 0} (xs : List (Entry Op)) (p : Stamp) → has_id xs (id_of p) ≡ true → (a : Entry Op) × (Contains xs a × (same_id a.stamp p ≡ true))
 has_id-who [] p h = (let f : false ≡ true = h in cc)
 has_id-who (a ∷ xs) p h = elim (has_id-cases a xs p h) [
@@ -55,7 +55,7 @@ has_id-who (a ∷ xs) p h = elim (has_id-cases a xs p h) [
   | inr i ↦ (let w = has_id-who xs p i in (w.0, (Contains-more a xs w.0 w.1.0, w.1.1)))
 ]
 
--- no entry of the second list has a name of the first
+-- no entry of the second list has an id of the first
 others_apart : {Op : Type 0} (xs ys : List (Entry Op)) (a : Entry Op) → Contains xs a → AllByRecursion (λ b. same_id a.stamp b.stamp ≡ false) (filter (λ e. not (has_id xs (id_of e.stamp))) ys)
 others_apart xs [] a c = tt
 others_apart xs (y ∷ ys) a c =
@@ -72,7 +72,7 @@ apart-append (a ∷ xs) ys h k o =
 both_apart : {Op : Type 0} (xs ys : List (Entry Op)) → AreApart xs → AreApart ys → AreApart (xs ++ filter (λ e. not (has_id xs (id_of e.stamp))) ys)
 both_apart xs ys h k = apart-append xs _ h (apart-filter _ ys k) (others_apart xs ys)
 
--- in an honest set, keys that rise are of different names
+-- in an honest set, keys that rise are of different ids
 pub rising_apart : {Op : Type 0} (xs : List (Entry Op)) → IsHonest xs → IsRising xs → AreApart xs
 rising_apart [] h r = tt
 rising_apart {Op} (a ∷ xs) h r = (
@@ -84,7 +84,7 @@ rising_apart {Op} (a ∷ xs) h r = (
   rising_apart xs (honest_part (a ∷ xs) xs h (λ e c. Contains-more a xs e c)) r.1,
 )
 
--- the list of two sets
+-- the union
 
 pub union_from : {Op : Type 0} (xs ys : List (Entry Op)) (e : Entry Op) → Contains (union xs ys) e → Contains xs e ⊎ Contains ys e
 unfolding union

@@ -34,7 +34,7 @@ all-interleaved P (x ∷ xs) (y ∷ ys) h k =
       ]
     ]
 
--- of two keys neither of which is less the names are the same
+-- of two keys neither of which is less the ids are the same
 level_names : {Op : Type 0} (x y : Entry Op) → is_below x.stamp y.stamp ≡ false → is_below y.stamp x.stamp ≡ false → same_id x.stamp y.stamp ≡ true
 level_names x y h k = true_from_ne_false _ (λ e. elim (key_either x.stamp y.stamp e) [
   | inl f ↦ (let g : true ≡ false = sym f ∙ h in cc)
@@ -64,7 +64,7 @@ interleaved_from_both {Op} xs ys e c =
     let P : Entry Op → Type 0 = λ z. Contains xs z ⊎ Contains ys z in
     at_member P (interleaved xs ys) e (all-interleaved P xs ys (all_weaker (Contains xs) P (λ z i. inl i) xs (each xs)) (all_weaker (Contains ys) P (λ z i. inr i) ys (each ys))) c
 
--- a name that is in both is one entry
+-- an id that is in both is one entry
 abbrev Meets : {Op : Type 0} → List (Entry Op) → List (Entry Op) → Type 0
 Meets {Op} xs ys = (a b : Entry Op) → Contains xs a → Contains ys b → same_id a.stamp b.stamp ≡ true → a ≡ b
 
@@ -107,7 +107,7 @@ interleaved_union xs ys r s h =
       ],
     ))
 
--- where no name stands twice, two of one name are one
+-- where no id stands twice, two of one id are one
 pub apart_one : {Op : Type 0} (l : List (Entry Op)) (a b : Entry Op) → AreApart l → Contains l a → Contains l b → same_id a.stamp b.stamp ≡ true → a ≡ b
 apart_one [] a b h c d q = let l : c.0 < 0 = c.1 in absurd (omega arith)
 apart_one {Op} (x ∷ l) a b h c d q =
@@ -122,7 +122,7 @@ apart_one {Op} (x ∷ l) a b h c d q =
       ]
     ]
 
--- where no name stands twice, whoever made the operations, the interleaved list is the canonical list of both
+-- where no id stands twice, whoever made the operations, the interleaved list is the canonical list of both
 pub interleaved_canonical : {Op : Type 0} (xs ys : List (Entry Op)) → IsRising xs → IsRising ys → AreApart (xs ++ ys) → interleaved xs ys ≡ canonical (xs ++ ys)
 interleaved_canonical xs ys r s h =
     let all = within xs ys (λ a b i j q. apart_one (xs ++ ys) a b h (Contains-append_left xs ys a i) (Contains-append_right xs ys b j) q) in

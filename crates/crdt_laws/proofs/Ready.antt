@@ -15,11 +15,11 @@ use Rattle.crdt_laws.proofs.Filters.{all-append, all-map}
 use Rattle.crdt_laws.proofs.Forms
 use Rattle.crdt_laws.proofs.Forms.{present-stamp}
 
--- the state lacks the operations to come, and their names differ, or names do not matter
+-- the state lacks the operations to come, and their ids differ
 abbrev pub AreFresh : {State Op : Type 0} → Meaning State Op → State → List (Entry Op) → Type 0
 AreFresh m s xs = AllByRecursion (λ e. Lacks m s (id_of e.stamp)) xs × AreApart xs
 
--- the operations xs may be applied one after another to s, where es are the forms so far
+-- the loop invariant: the operations xs may be applied one after another to s, where es are the forms so far
 pub record IsReady {State Op : Type 0} (m : Meaning State Op) (s : State) (es xs : List (Entry Op)) : Type 0 where
   pub members : ℕ
   pub good : m.good members s

@@ -16,7 +16,7 @@ pub record Action (State Low Op : Type 0) : Type 1 where
   pub apply : State → Stamp → Op → State
   -- what an operation of the tower becomes when the actor's acts on it
   pub act : Op → Low → Low
-  -- apply, act and copy never want memory
+  -- apply, act and copy never run out of memory
   pub sparing : Bool
 
 -- the actor's operation y was issued at the stamp p, in a document with n members
@@ -41,7 +41,7 @@ pub record IsLawfulAction {State Low Op : Type 0} (m : Meaning State Low) (a : A
   -- An operation that is acted on may still stand at some stamp. Without it nothing further could act on it.
   pub well_formed-act : (y : Op) (x : Low) → a.well_formed y → m.well_formed x → m.well_formed (a.act y x)
   -- And it may stand at the stamp at which it stood. Without it the form in which it is present could not be applied. The
-  -- operation that acts is one of a document with as many members.
+  -- operation that acts was issued in a document of as many members.
   pub valid-act : (p : Stamp) (y : Op) (x : Low) → IsStamp p → WasActing a p.clock.n y → m.valid p x → m.valid p (a.act y x)
   -- Two concurrent operations of the actor may be applied in either order. Without it replicas that heard them in different
   -- orders differ.
@@ -62,10 +62,10 @@ pub record IsLawfulAction {State Low Op : Type 0} (m : Meaning State Low) (a : A
   -- a replica that has settled goes on to another state than one that has not.
   pub settle-apply : (n : ℕ) (s : State) (k : Clock) (p : Stamp) (y : Op) → m.good n s → Agrees m s k
       → IsActing a n p y → Lacks m s (id_of p) → IsAfter k p → m.settle (a.apply s p y) k ≡ a.apply (m.settle s k) p y
-  -- An issued operation whose name the state does not hold keeps the state good. Without it nothing more could be applied.
+  -- An issued operation whose id the state does not hold keeps the state good. Without it nothing more could be applied.
   pub good-apply : (n : ℕ) (s : State) (p : Stamp) (y : Op) → m.good n s → IsActing a n p y → Lacks m s (id_of p) → m.good n (a.apply s p y)
-  -- An operation that the clock covers, and which knows no more than the clock, brings no other names into the state. Without
-  -- it a saved state might name what its file does not know.
+  -- An operation that the clock covers, and which knows no more than the clock, brings no other ids into the state. Without
+  -- it a saved state might refer to an operation that its file does not know.
   pub good_at-apply : (d : Clock) (s : State) (p : Stamp) (y : Op) → m.good_at d s → IsActing a d.n p y → Lacks m s (id_of p)
       → IsAtMost p.clock d → IsTrue (covers d (id_of p)) → m.good_at d (a.apply s p y)
   -- An operation adds no other stamp to those that the state holds than its own. Without it a new operation might be taken

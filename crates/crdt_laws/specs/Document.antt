@@ -1,4 +1,4 @@
--- What the program that makes a document keeps on its way.
+-- What making a document asks of the operations, and its loop invariant.
 use Rattle.std.specs.Prelude.{ℕ, Bool, ◌&&◌, ◌==◌, ◌⊎◌, List, IsTrue}
 use Rattle.vector_clock.specs.declared.stamp.Stamp.{Stamp}
 use Rattle.vector_clock.specs.Stamp.{are_concurrent, id_of}
@@ -10,7 +10,7 @@ use Rattle.crdt_laws.specs.Sets.{AreApart, AreIssued}
 abbrev pub is_at : {State Op : Type 0} → Meaning State Op → ℕ → Stamp → Entry Op → Bool
 is_at m l p e = (m.level e.op == l) && are_concurrent e.stamp p
 
--- The operations are of one document, and no two have one name. Where states hold no stamps, names do not matter.
+-- The operations are of one document, and no two have one id. Where states hold no stamps, ids do not matter.
 pub record MakesDocument {State Op : Type 0} (m : Meaning State Op) (xs : List (Entry Op)) : Type 0 where
   pub members : ℕ
   pub issued : AreIssued m members xs

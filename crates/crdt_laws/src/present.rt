@@ -44,7 +44,8 @@ fn acted_at_level<T: Tower>(
     Ok(form)
 }
 
-/// The form in which the operation is applied, where these are the forms of those before it. Only want of memory is refused.
+/// The form in which the operation is applied, where these are the forms of those before it. `NoMemory` comes where it runs out
+/// of memory.
 pub fn present_form<T: Tower>(
     alloc: Global,
     tower: &T,
@@ -67,7 +68,7 @@ pub fn present_form<T: Tower>(
     Ok(form)
 }
 
-/// The forms, acted on by one more. Only want of memory is refused.
+/// The forms, acted on by one more. `NoMemory` comes where it runs out of memory.
 pub fn acted_forms<T: Tower>(
     alloc: Global,
     tower: &T,
@@ -108,8 +109,8 @@ fn apply_next<T: Tower>(
 }
 
 /// The document of operations in canonical order: each one is applied as the concurrent ones of higher levels before it
-/// have changed it. Only want of memory is refused. The time is that of the number of operations squared, times the
-/// levels.
+/// have changed it. `NoMemory` comes where it runs out of memory. The time grows with the square of the number of operations,
+/// times the levels.
 pub fn document<T: Tower>(alloc: Global, tower: &T, ops: &Ops<T::Op>) -> Result<T::State, NoMemory>
     requires { MakesDocument (T.meaning tower.now) ops.now }
     ensures { IfOk result (λ s. s ≡ document (T.meaning tower.now) ops.now) }

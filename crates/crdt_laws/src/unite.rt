@@ -61,8 +61,8 @@ fn move_all<Op: Drop>(from: VecDeque<Entry<Op>>, to: &mut Ops<Op>) -> Result<(),
     Ok(())
 }
 
-/// The operations of two sets as one, by rising key. Each set is given by rising key. Where both hold one operation it
-/// stands once. Only want of memory is refused. It takes one pass over both.
+/// The union of two sets of operations, by rising key. Each set is given by rising key. Where both hold one operation it
+/// stands once. `NoMemory` comes where it runs out of memory. It takes one pass over both.
 pub fn union<Op: Drop>(alloc: Global, xs: Ops<Op>, ys: Ops<Op>) -> Result<Ops<Op>, NoMemory>
     requires left_rises { IsRising xs }
     requires right_rises { IsRising ys }

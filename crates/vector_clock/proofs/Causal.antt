@@ -1,4 +1,4 @@
--- What came before what is a strict order on honest sets.
+-- Happens-before is a strict order on honest sets.
 use Rattle.std.proofs.Common.{◌≡◌, ◌≤◌, true, false, List, arith, Contains}
 use Rattle.std.proofs.lemmas.Bool.{false_from_ne_true}
 use Rattle.std.proofs.lemmas.Bool.Decides.{nat_tests}

@@ -117,7 +117,7 @@ module _ {X : Type 0} (at : X → Stamp) where
   rising_at (a ∷ l) d r zero (suc j) h m = All-from_recursion (λ e. is_below (at a) (at e) ≡ true) l r.0 j d (let q : suc j < suc (length l) = m in omega arith)
   rising_at (a ∷ l) d r (suc i) (suc j) h m = rising_at l d r.1 i j (omega arith) (let q : suc j < suc (length l) = m in omega arith)
 
--- the place of the stamp is not before low, and not behind high
+-- the loop invariant of the search: the place of the stamp is not before low, and not behind high
 pub record IsBetween {X : Type 0} (at : X → Stamp) (s : Stamp) (l : List X) (low high : ℕ) : Type 0 where
   pub order : low ≤ high
   pub within : high ≤ length l

@@ -13,7 +13,7 @@ module _ {X : Type 0} (at : X → Stamp) where
     pub same : (a b : X) → Contains xs a → Contains xs b → IsTrue (same_id (at a) (at b)) → a ≡ b
     pub known : (a b : X) → Contains xs a → Contains xs b → IsTrue (is_before (at b) (at a)) → IsAfter (at b).clock (at a)
 
-  -- Whatever a clock in the set covers is in the set: nothing that somebody knew of is missing.
+  -- The set is causally closed: whatever a clock in it covers is in it, so that nothing that somebody knew of is missing.
   pub record IsClosed (xs : List X) : Type 0 where
     pub each : (a : X) (i : Id) → Contains xs a → 1 ≤ i.seq → IsTrue (covers (at a).clock i) → Any (λ b. id_of (at b) ≡ i) xs
 

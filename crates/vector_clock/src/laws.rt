@@ -23,8 +23,7 @@ pub fn canonical_order()
     ensures causal { (a b : Stamp) → IsAfter a.clock b → IsTrue (is_below a b) }
 {}
 
-/// On an honest set, what came before what is a strict order, and the canonical order extends it. On other sets it need
-/// be neither.
+/// On an honest set, happens-before is a strict order, and the canonical order extends it. On other sets neither need hold.
 pub fn causal_order<X>()
     ensures irreflexive { (a : Stamp) → IsFalse (is_before a a) }
     ensures asymmetric { (at : X → Stamp) (xs : List X) → IsHonest at xs → (a b : X) → Contains xs a → Contains xs b → IsTrue (is_before (at a) (at b)) → IsFalse (is_before (at b) (at a)) }

@@ -5,7 +5,7 @@ ghost use Rattle.vector_clock.specs.Stamp.{IsStamp, is_below};
 
 use crate::stamp::Stamp;
 
-/// What carries the stamp of an operation, and so has a place in the canonical order.
+/// A value that carries the stamp of an operation, and so has a place in the canonical order.
 pub trait Stamped {
     ghost use Rattle.vector_clock.specs.declared.stamp.Stamp.{Stamp};
 
@@ -17,7 +17,7 @@ pub trait Stamped {
         ensures { result.now ≡ at self.now };
 }
 
-/// Before which no element has a greater key: the end, where the last one has none, and else the first place.
+/// A place before which no element has a greater key: the end if the last one has none, and else the first place.
 fn least_place<X: Stamped>(items: &[X], stamp: &Stamp) -> usize
     requires stamp { IsStamp stamp.now }
     requires stamps { All (λ x. IsStamp (X.at x)) items.now }
