@@ -169,6 +169,7 @@ module _ {S L H : Type 0} (m : Meaning S L) (law : IsLawful m) (a : Action S L H
     good_at_later = law.good_at_later;
     good_at-apply = good_at-apply;
     good_at-settle = law.good_at-settle;
+    good_at-holds = law.good_at-holds;
     holds-init = law.holds-init;
     holds-apply = holds-apply;
     holds-settle = law.holds-settle;
