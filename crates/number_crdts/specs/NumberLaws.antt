@@ -53,6 +53,7 @@ add_lawful = record {
   good_at_later = λ d e s _ _ h. h;
   good_at-apply = λ d s p x _ _ _ _ _. mod-lt (s + x) (omega arith);
   good_at-settle = λ d s k h. h;
+  good_at-holds = λ d s p _ h. absurd h;
   holds-init = λ p h. h;
   holds-apply = λ s p x q h. inr h;
   holds-settle = λ s k q h. h;
