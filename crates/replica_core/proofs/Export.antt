@@ -9,7 +9,8 @@ use Rattle.vector_clock.specs.Clock.{count, zero_clock, max_members}
 use Rattle.crdt_laws.specs.declared.small.Entry.{Entry}
 use Rattle.crdt_laws.specs.Tower.{IsIssued, Meaning}
 use Rattle.crdt_laws.proofs.Filters.{rising-filter}
-use Rattle.replica_model.specs.Replica.{Batch, Replica, beyond, exported, left_out, members, new_replica, row}
+use Rattle.replica_model.specs.Replica.{Batch, Replica, exported, left_out, members, new_replica, row}
+use Rattle.crdt_laws.specs.Sets.{beyond}
 use Rattle.replica_core.specs.Kept.{AreKept, IsBatchUpTo, IsKept, IsKeptBatch, IsKnown, IsReplicaUpTo, IsUpTo}
 use Rattle.replica_core.proofs.Edit.{kept_from}
 

@@ -2,7 +2,7 @@ ghost use Rattle.std.specs.Prelude.{◌≡◌, IfOk};
 ghost use Rattle.std.specs.List.{All};
 ghost use Rattle.vector_clock.specs.Clock.{IsClock};
 ghost use Rattle.crdt_laws.specs.Tower.{IsStampOf};
-ghost use Rattle.replica_model.specs.Replica.{beyond};
+ghost use Rattle.crdt_laws.specs.Sets.{beyond};
 
 use crate::replica::Batch;
 use crdt_laws::{Entry, NoMemory, Ops, Tower, Txt};

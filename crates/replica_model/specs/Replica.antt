@@ -2,11 +2,10 @@
 use Rattle.std.specs.Prelude.{ℕ, ◌+◌, List, [], ◌∷◌, not, nat_le, Option, None, Some, filter, fold, length, replicate, slice_index_or, slice_set, if◌then◌else◌}
 use Rattle.vector_clock.specs.declared.clock.Clock.{Clock}
 use Rattle.vector_clock.specs.declared.stamp.Stamp.{Stamp}
-use Rattle.vector_clock.specs.Clock.{count, covers, join, meet, with_entry, zero_clock}
-use Rattle.vector_clock.specs.Stamp.{id_of}
+use Rattle.vector_clock.specs.Clock.{count, join, meet, with_entry, zero_clock}
 use Rattle.crdt_laws.specs.declared.small.Entry.{Entry}
 use Rattle.crdt_laws.specs.Entry.{entry}
-use Rattle.crdt_laws.specs.Sets.{has_all_of, place, union}
+use Rattle.crdt_laws.specs.Sets.{beyond, has_all_of, place, union}
 
 pub record Replica (Op : Type 0) : Type 0 where
   -- the text of the document's schema
@@ -68,10 +67,6 @@ edited r op =
 abbrev pub left_out : {Op : Type 0} → Replica Op → Option ℕ → Clock
 left_out r None = floor r
 left_out r (Some j) = row r.known j
-
--- the operations that the clock does not cover
-abbrev pub beyond : {Op : Type 0} → Clock → List (Entry Op) → List (Entry Op)
-beyond k xs = filter (λ e. not (covers k (id_of e.stamp))) xs
 
 unfoldable pub exported : {Op : Type 0} → Replica Op → Option ℕ → Batch Op
 exported r to =

@@ -1,35 +1,18 @@
 -- What the laws say of entries, and of lists of entries that act.
-use Rattle.std.proofs.Common.{◌≡◌, ℕ, ◌≤◌, ◌<◌, Bool, true, false, List, [], ◌∷◌, ◌++◌, cond, refl, ap, sym, ◌∙◌, arith, map, subst}
+use Rattle.std.proofs.Common.{◌≡◌, ℕ, ◌≤◌, ◌<◌, Bool, true, false, List, [], ◌∷◌, cond, refl, ap, sym, ◌∙◌, arith, map, subst}
 use Rattle.std.specs.List.{filter, AllByRecursion}
 use Rattle.std.proofs.lemmas.Bool.Decides.{nat_tests}
-use Rattle.vector_clock.specs.declared.stamp.Stamp.{Stamp}
 use Rattle.vector_clock.specs.Stamp.{is_below, are_concurrent}
 use Rattle.crdt_laws.specs.declared.small.Entry.{Entry}
-use Rattle.crdt_laws.specs.Tower.{Meaning, IsLawful, IsIssued, WasIssued}
+use Rattle.crdt_laws.specs.Tower.{Meaning, IsLawful, IsIssued}
 use Rattle.crdt_laws.specs.Present.{acted, acted_by, acts_at}
 use Rattle.crdt_laws.specs.Sets.{place}
-use Rattle.weave_model.proofs.Filters.{all-filter}
-use Rattle.std.proofs.Common.{inl, inr}
-use Rattle.vector_clock.specs.Stamp.{id_of, same_id}
-use Rattle.vector_clock.proofs.Keys.{other_ids}
-use Rattle.crdt_laws.specs.Tower.{Lacks}
-
--- applying an operation adds no other name to those that a state holds
-pub lacks-apply : {State Op : Type 0} (t : Meaning State Op) (law : IsLawful t) (s : State) (p q : Stamp) (x : Op) → Lacks t s (id_of q) → same_id p q ≡ false → Lacks t (t.apply s p x) (id_of q)
-lacks-apply t law s p q x f d = record {
-  none = λ b h same. elim (law.holds-apply s p x b h) [
-    | inl e ↦ other_ids p q d (sym same ∙ ap id_of e)
-    | inr a ↦ f.none b a same
-  ];
-}
+use Rattle.vector_clock.proofs.Ordered.{all-filter}
+use Rattle.crdt_laws.proofs.Acts.{formed, acted-issued}
 
 pub acts_at-level : {State Op : Type 0} (t : Meaning State Op) (l : ℕ) (x e : Entry Op) → acts_at t l x e ≡ true → t.level e.op ≡ l
 unfolding acts_at
 acts_at-level t l x e h = grind (arith, nat_tests)
-
-pub acts_at-above : {State Op : Type 0} (t : Meaning State Op) (l : ℕ) (x e : Entry Op) → acts_at t l x e ≡ true → t.level x.op < l
-unfolding acts_at
-acts_at-above t l x e h = grind (arith, nat_tests)
 
 pub acts_at-concurrent : {State Op : Type 0} (t : Meaning State Op) (l : ℕ) (x e : Entry Op) → acts_at t l x e ≡ true → are_concurrent e.stamp x.stamp ≡ true
 unfolding acts_at
@@ -48,14 +31,6 @@ pub acts_at-same : {State Op : Type 0} (t : Meaning State Op) (l : ℕ) (x e f :
 unfolding acts_at
 acts_at-same t l x e f h k = cc
 
-pub acted_by-append : {State Op : Type 0} (t : Meaning State Op) (es fs : List (Entry Op)) (x : Entry Op) → acted_by t (es ++ fs) x ≡ acted_by t fs (acted_by t es x)
-acted_by-append t [] fs x = refl
-acted_by-append t (e ∷ es) fs x = acted_by-append t es fs (acted t e x)
-
-pub acted_by-stamp : {State Op : Type 0} (t : Meaning State Op) (es : List (Entry Op)) (x : Entry Op) → (acted_by t es x).stamp ≡ x.stamp
-acted_by-stamp t [] x = refl
-acted_by-stamp t (e ∷ es) x = acted_by-stamp t es (acted t e x)
-
 module _ {State Op : Type 0} (t : Meaning State Op) (members : ℕ) (law : IsLawful t) where
   abbrev pub Issued : Entry Op → Type 0
   Issued e = IsIssued t members e.stamp e.op
@@ -66,47 +41,35 @@ module _ {State Op : Type 0} (t : Meaning State Op) (members : ℕ) (law : IsLaw
   abbrev pub level_of : Entry Op → ℕ
   level_of e = t.level e.op
 
-  pub formed : (x : Entry Op) → Issued x → t.well_formed x.op
-  formed x v = law.valid_well_formed x.stamp x.op v.valid
-
   pub level_low : (x : Entry Op) → Issued x → 1 ≤ level_of x
-  level_low x v = law.level_low x.op (formed x v)
+  level_low x v = law.level_low x.op (formed t members law x v)
 
   pub level_top : (x : Entry Op) → Issued x → level_of x ≤ t.top
-  level_top x v = law.level_top x.op (formed x v)
+  level_top x v = law.level_top x.op (formed t members law x v)
 
   pub acted-level : (y x : Entry Op) → Issued y → Issued x → level_of (acted t y x) ≡ level_of x
-  acted-level y x v w = law.level-act y.op x.op (formed y v) (formed x w)
-
-  pub acted-issued : (y x : Entry Op) → Issued y → Issued x → Issued (acted t y x)
-  acted-issued y x v w =
-      let acting : WasIssued t x.stamp.clock.n y.op = subst (λ n. WasIssued t n y.op) (sym w.stamp.members) (record { at = y.stamp; issued = v }) in
-      record { stamp = w.stamp; valid = law.valid-act x.stamp y.op x.op w.stamp.stamp acting w.valid }
+  acted-level y x v w = law.level-act y.op x.op (formed t members law y v) (formed t members law x w)
 
   pub acted-above : (y x : Entry Op) → Issued y → Issued x → level_of y ≤ level_of x → acted t y x ≡ x
-  acted-above y x v w h = ap {B = Entry Op} (λ o. record { stamp = x.stamp; op = o }) (law.act_below y.op x.op (formed y v) (formed x w) h)
+  acted-above y x v w h = ap {B = Entry Op} (λ o. record { stamp = x.stamp; op = o }) (law.act_below y.op x.op (formed t members law y v) (formed t members law x w) h)
 
   pub acted_commute : (y v x : Entry Op) → Issued y → Issued v → Issued x → level_of y ≡ level_of v → acted t y (acted t v x) ≡ acted t v (acted t y x)
   acted_commute y v x p q r h =
-      ap {B = Entry Op} (λ o. record { stamp = x.stamp; op = o }) (law.act-act y.op v.op x.op (formed y p) (formed v q) (formed x r) h)
+      ap {B = Entry Op} (λ o. record { stamp = x.stamp; op = o }) (law.act-act y.op v.op x.op (formed t members law y p) (formed t members law v q) (formed t members law x r) h)
 
   pub acted_distribute : (z y x : Entry Op) → Issued z → Issued y → Issued x → level_of x < level_of y → level_of y < level_of z → acted t z (acted t y x) ≡ acted t (acted t z y) (acted t z x)
   acted_distribute z y x p q r h k =
-      ap {B = Entry Op} (λ o. record { stamp = x.stamp; op = o }) (law.distribute z.op y.op x.op (formed z p) (formed y q) (formed x r) h k)
-
-  pub acted_by-issued : (es : List (Entry Op)) (x : Entry Op) → AllIssued es → Issued x → Issued (acted_by t es x)
-  acted_by-issued [] x v w = w
-  acted_by-issued (e ∷ es) x v w = acted_by-issued es (acted t e x) v.1 (acted-issued e x v.0 w)
+      ap {B = Entry Op} (λ o. record { stamp = x.stamp; op = o }) (law.distribute z.op y.op x.op (formed t members law z p) (formed t members law y q) (formed t members law x r) h k)
 
   pub acted_by-level : (es : List (Entry Op)) (x : Entry Op) → AllIssued es → Issued x → level_of (acted_by t es x) ≡ level_of x
   acted_by-level [] x v w = refl
-  acted_by-level (e ∷ es) x v w = acted_by-level es (acted t e x) v.1 (acted-issued e x v.0 w) ∙ acted-level e x v.0 w
+  acted_by-level (e ∷ es) x v w = acted_by-level es (acted t e x) v.1 (acted-issued t members law e x v.0 w) ∙ acted-level e x v.0 w
 
   -- entries of the level of y: the action of y can be moved to the end
   pub level_commute : (y : Entry Op) → Issued y → (es : List (Entry Op)) → AllIssued es → AllByRecursion (λ e. level_of e ≡ level_of y) es → (z : Entry Op) → Issued z → acted_by t es (acted t y z) ≡ acted t y (acted_by t es z)
   level_commute y p [] v l z q = refl
   level_commute y p (e ∷ es) v l z q =
-      ap (acted_by t es) (acted_commute e y z v.0 p q l.0) ∙ level_commute y p es v.1 l.1 (acted t e z) (acted-issued e z v.0 q)
+      ap (acted_by t es) (acted_commute e y z v.0 p q l.0) ∙ level_commute y p es v.1 l.1 (acted t e z) (acted-issued t members law e z v.0 q)
 
   pub level_filter : (q : Entry Op → Bool) (k : ℕ) → ((e : Entry Op) → q e ≡ true → level_of e ≡ k) → (es : List (Entry Op)) → AllByRecursion (λ e. level_of e ≡ k) (filter q es)
   level_filter q k h [] = tt
@@ -123,7 +86,7 @@ module _ {State Op : Type 0} (t : Meaning State Op) (members : ℕ) (law : IsLaw
             ∙ level_commute y p (filter q (a ∷ es)) (all-filter Issued q (a ∷ es) v) (level_filter q (level_of y) h (a ∷ es)) z w)
         | false ↦
             elim (q a) as (λ b. acted_by t (cond b (a ∷ filter q (place y es)) (filter q (place y es))) z ≡ acted t y (acted_by t (cond b (a ∷ filter q es) (filter q es)) z)) [
-              | true ↦ level_joined q y p qy h es v.1 (acted t a z) (acted-issued a z v.0 w)
+              | true ↦ level_joined q y p qy h es v.1 (acted t a z) (acted-issued t members law a z v.0 w)
               | false ↦ level_joined q y p qy h es v.1 z w
             ]
       ]
@@ -138,6 +101,6 @@ module _ {State Op : Type 0} (t : Meaning State Op) (members : ℕ) (law : IsLaw
         | true ↦ λ e.
             let lt : level_of z < level_of a = (let f : k < level_of a = (h a e).0 in omega arith) in
             ap (acted_by t (filter q (map (acted t y) es))) (sym (acted_distribute y a z p v.0 w lt (h a e).1))
-            ∙ between_levels q y p k h same es v.1 (acted t a z) (acted-issued a z v.0 w) (acted-level a z v.0 w ∙ l)
+            ∙ between_levels q y p k h same es v.1 (acted t a z) (acted-issued t members law a z v.0 w) (acted-level a z v.0 w ∙ l)
         | false ↦ λ e. between_levels q y p k h same es v.1 z w l
       ]) refl)

@@ -1,5 +1,5 @@
 use Rattle.std.proofs.Common.{◌≡◌, take}
-use Rattle.replica_model.specs.Replica.{beyond}
+use Rattle.crdt_laws.specs.Sets.{beyond}
 use Rattle.replica_core.proofs.copies.copy_beyond.Given as goal
 
 abbrev pub invariant-loop-e : goal.invariant-loop-e
