@@ -142,7 +142,7 @@ HasWrittenFault w Twice = HasNames w × (¬ IsApart w)
 HasWrittenFault w (ShapeFault fault) = HasNames w × IsApart w × HasShapeFault w fault
 HasWrittenFault w NoMemory = Unit {0}
 
--- the text has this fault, and none of those before it; want of memory may come at any time
+-- the text has this fault, and none of those before it; running out of memory may come at any time
 abbrev pub HasTextFault : List ℕ → TableFault → Type 0
 HasTextFault text NotJson = (d : Data) → ¬ IsJson text d
 HasTextFault text Form = (d : Data) × IsJson text d × (written_of d ≡ None)

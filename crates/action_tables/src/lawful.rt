@@ -36,7 +36,7 @@ impl LawfulTable {
         &self.table
     }
 
-    /// The same lawful table again. Refuses for want of memory alone.
+    /// The same lawful table again. `NoMemory` comes where it runs out of memory.
     pub fn copy(&self, alloc: Global) -> Result<LawfulTable, NoMemory>
         ensures { IfOk result (λ l. l.table ≡ self.now.table) }
     {

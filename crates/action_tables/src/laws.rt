@@ -37,7 +37,7 @@ pub fn one_fault()
 {}
 
 /// A text spells one table with one name for each state and operation. One that spells a table has no fault, and any other has
-/// one fault, where want of memory is none.
+/// one fault. Running out of memory is none.
 pub fn one_reading()
     ensures one { (text : List ℕ) (t t' : ActionTable) (states ops states' ops' : List (List ℕ)) → Spells text t states ops
         → Spells text t' states' ops' → (t ≡ t') × (states ≡ states') × (ops ≡ ops') }

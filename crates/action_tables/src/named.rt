@@ -30,7 +30,7 @@ pub enum TableFault {
     Twice,
     /// The parts make no table.
     Shape(Shape),
-    /// There was no memory. It says nothing of the text, and may come at any point.
+    /// The call ran out of memory. It says nothing of the text, and may come at any point.
     NoMemory,
 }
 

@@ -23,7 +23,7 @@ fn first_of(member: u8) -> Stamp
     }
 }
 
-// The state after a first operation of a member. An operation that is not valid ends a test as want of memory does.
+// The state after a first operation of a member. An operation that is not valid ends a test as running out of memory does.
 fn after<T: Tower>(
     alloc: Global,
     tower: &T,
@@ -44,7 +44,7 @@ fn after<T: Tower>(
     }
 }
 
-// What an operation becomes when another acts on it. One that is not valid ends a test as want of memory does.
+// What an operation becomes when another acts on it. One that is not valid ends a test as running out of memory does.
 fn acted<T: Tower>(alloc: Global, tower: &T, y: &T::Op, x: &T::Op) -> Result<T::Op, NoMemory> {
     let stamp = first_of(0);
     if tower.valid(&stamp, y) && tower.valid(&stamp, x) {

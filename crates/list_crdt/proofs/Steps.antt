@@ -38,7 +38,7 @@ pub steps_some : (P : Step → Type 0) (p : List Step) → AreSteps P p → 0 < 
 steps_some P [] h = absurd h
 steps_some P (s ∷ p) h = omega arith
 
--- the last step names the maker
+-- the last step has the id of the maker
 pub maker_names : (n : ℕ) (p : List Step) → AreSteps (NamesOperation n) p → NamesOperation n (last_step p)
 maker_names n [] h = absurd h
 maker_names n (s ∷ []) h = h

@@ -20,7 +20,7 @@ position_cmp = slice_cmp step_cmp
 abbrev pub IsBefore : List Step → List Step → Type 0
 IsBefore p q = position_cmp p q ≡ Less
 
--- the step that no operation is named by: it only goes down a level, below all other steps
+-- the step that has no operation's id: it only goes down a level, below all other steps
 abbrev pub pad : Step
 pad = record { digit = 0; member = 0; seq = 0 }
 
@@ -35,7 +35,7 @@ pub record HasDigit (s : Step) : Type 0 where
   pub low : 1 ≤ s.digit
   pub high : s.digit < 65536
 
--- and in a document with n members it names an operation of one of them
+-- and in a document with n members it has the id of an operation of one of them
 pub record NamesOperation (n : ℕ) (s : Step) : Type 0 where
   pub digit : HasDigit s
   pub member : s.member < n
@@ -62,6 +62,6 @@ last_step [] = pad
 last_step (s ∷ []) = s
 last_step (s ∷ t ∷ p) = last_step (t ∷ p)
 
--- the name of the operation that a position was made for
+-- the id of the operation that a position was made for
 abbrev pub maker : List Step → Id
 maker p = record { member = (last_step p).member; seq = (last_step p).seq }

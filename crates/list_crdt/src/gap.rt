@@ -13,7 +13,7 @@ use std::alloc::Global;
 pub enum ListError {
     /// The next position would have so many steps, more than 32.
     PositionFull { steps: u32 },
-    /// There was no memory for it.
+    /// The call ran out of memory.
     NoMemory,
 }
 
@@ -93,12 +93,12 @@ fn ending_in(alloc: Global, p: &[Step], depth: usize, last: Step) -> Result<Posi
 
 /// The next position between `p` and `q`, where these are given, for the operation of this member with this sequence number: where
 /// a character stands that the operation puts between theirs. `p` comes before `q`. Refuses with `PositionFull` exactly where
-/// that position has more than 32 steps, and else for want of memory alone. Different operations get different positions,
-/// whatever these are made between.
+/// that position has more than 32 steps, and else only where it runs out of memory. Different operations get different
+/// positions, whatever these are made between.
 ///
 /// Positions are lists of steps with digits, after the identifiers of Logoot (Weiss, Urso and Molli, 2009). There a new digit is
 /// drawn at random from those between its neighbours'. Here it is the one next to the lower neighbour's, or below the upper one's
-/// where there is no lower neighbour. So a position follows from its neighbours and its operation's name.
+/// where there is no lower neighbour. So a position follows from its neighbours and its operation's id.
 pub fn between(
     alloc: Global,
     p: Option<&Position>,

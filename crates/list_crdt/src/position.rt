@@ -8,7 +8,7 @@ use std::cmp::Ordering;
 use std::marker::Model;
 use vector_clock::{Id, MAX_SEQ};
 
-/// One step of a position: a digit, and the name of the operation that it was made for. Steps are compared by digit, then by
+/// One step of a position: a digit, and the id of the operation that it was made for. Steps are compared by digit, then by
 /// member, then by sequence number.
 #[derive(Clone, Copy, Debug, PartialEq, Eq, PartialOrd, Ord)]
 pub struct Step {
@@ -19,7 +19,7 @@ pub struct Step {
 }
 
 impl Step {
-    /// The step that names no operation. It goes down a level, below all other steps.
+    /// The step that has no operation's id. It goes down a level, below all other steps.
     pub const PAD: Step = Step {
         digit: 0,
         member: 0,
@@ -28,7 +28,7 @@ impl Step {
 
     ghost use Rattle.list_crdt.specs.Position.{NamesOperation, pad};
 
-    /// Whether the step names an operation of one of `n` members.
+    /// Whether the step has the id of an operation of one of `n` members.
     fn names_operation(&self, n: u8) -> bool
         ensures { IsTrue result ↔ NamesOperation n self.now }
     {
@@ -36,7 +36,7 @@ impl Step {
         digit >= 1 && member < n && (1..=MAX_SEQ).contains(&seq)
     }
 
-    /// Whether the step may stand before others: it is a pad, or names an operation of one of `n` members.
+    /// Whether the step may stand before others: it is a pad, or has the id of an operation of one of `n` members.
     fn may_lead(&self, n: u8) -> bool
         ensures { IsTrue result ↔ (self.now ≡ pad) ⊎ NamesOperation n self.now }
     {
@@ -51,8 +51,8 @@ fn may_lead(steps: &[Step], n: u8) -> bool
     steps.iter().all(|s| s.may_lead(n))
 }
 
-/// The place of a character: 1 to 32 steps, the last of which names the operation that it was made for. Contracts see the list
-/// of steps.
+/// The place of a character: 1 to 32 steps, the last of which has the id of the operation that it was made for. Contracts see
+/// the list of steps.
 #[derive(Debug, Drop)]
 pub struct Position {
     pub steps: List<Step>,
@@ -124,8 +124,8 @@ impl Position {
     /// The most steps that a position may have.
     pub const MAX_STEPS: usize = 32;
 
-    /// Whether this is a position of a document with `n` members: it has 1 to 32 steps, each of which is a pad or names an
-    /// operation of a member, and the last one is no pad.
+    /// Whether this is a position of a document with `n` members: it has 1 to 32 steps, each of which is a pad or has the id
+    /// of an operation of a member, and the last one is no pad.
     pub fn is_of(&self, n: u8) -> bool
         ensures of { IsTrue result ↔ IsPositionOf n self.now }
         ensures position { IsTrue result → IsPosition self.now }
@@ -140,7 +140,7 @@ impl Position {
         }
     }
 
-    /// The name of the operation that the position was made for, which its last step has.
+    /// The id of the operation that the position was made for, which its last step has.
     pub fn maker(&self) -> Id
         requires { 0 < length self.now }
         ensures { result ≡ maker self.now }

@@ -237,7 +237,7 @@ fn typed(alloc: Global, places: &[u32]) -> Result<TextState, Fail>
     Ok(state)
 }
 
-// How many steps the positions of the text have together, and the most that one has.
+// How many steps the positions of the text have in all, and the most that one has.
 fn steps_of(state: &TextState) -> (usize, usize) {
     let mut sum = 0usize;
     let mut most = 0usize;
@@ -304,7 +304,7 @@ fn gives_the_positions_of_three_characters(rt: HostRuntime) -> Result<(), Fail> 
     Ok(())
 }
 
-// An insert has its own name in its position, and a delete the name of another operation, which its member knows.
+// An insert has its own id in its position, and a delete the id of another operation, which its member knows.
 #[test]
 fn tells_valid_operations(rt: HostRuntime) -> Result<(), Fail> {
     let alloc = rt.alloc();

@@ -45,7 +45,7 @@ impl Placed for Cell {
 /// The characters of a text by strictly rising position.
 pub type TextState = List<Cell>;
 
-/// What a member asks of a text. The position of an insert is made for it: its last step has the insert's name. A delete names the
+/// What a member asks of a text. The position of an insert is made for it: its last step has the insert's id. A delete has the
 /// position that was made for another operation, which its member knows.
 #[derive(Debug, Drop)]
 pub enum TextOp {
@@ -55,7 +55,7 @@ pub enum TextOp {
     Delete { at: Position },
 }
 
-/// Whether an operation at this stamp may name this position.
+/// Whether an operation at this stamp may refer to this position.
 fn may_name(stamp: &Stamp, at: &Position) -> bool
     requires { IsStamp stamp.now }
     ensures { IsTrue result ↔ IsWithin stamp.now × IsPositionOf stamp.now.clock.n at.now }
@@ -63,7 +63,7 @@ fn may_name(stamp: &Stamp, at: &Position) -> bool
     is_within(stamp) && at.is_of(stamp.clock.n)
 }
 
-/// Whether the position may be that of an insert at this stamp: its last step has the insert's name.
+/// Whether the position may be that of an insert at this stamp: its last step has the insert's id.
 pub fn may_insert_at(stamp: &Stamp, at: &Position) -> bool
     requires { IsStamp stamp.now }
     ensures { IsTrue result ↔ IsWithin stamp.now × (IsPositionOf stamp.now.clock.n at.now × (maker at.now ≡ id_of stamp.now)) }

@@ -32,7 +32,7 @@ abbrev pub latest_show : Option Set → Data
 latest_show None = null
 latest_show (Some s) = string s.text
 
--- the name of the operation that has this key
+-- the id of the operation that has this key
 abbrev pub id_of_key : Key → Id
 id_of_key k = record { member = k.member; seq = k.seq }
 

@@ -29,7 +29,7 @@ place_comm x y h (a ∷ l) =
     let ih : place_held x (place_held y l) ≡ place_held y (place_held x l) = place_comm x y h l in
     grind (arith, ih)
 
--- two sets of different names may be put in their places in either order
+-- two sets of different ids may be put in their places in either order
 place_swap : (x y : Held) → same_id x.stamp y.stamp ≡ false → (l : List Held) → place_held x (place_held y l) ≡ place_held y (place_held x l)
 place_swap x y d l = elim (cases_Bool (is_below x.stamp y.stamp)) [
   | inl e ↦ place_comm x y e l
@@ -94,7 +94,7 @@ commute n s p q x y may =
 
 -- good states
 
--- a set removes itself, and so what is left has other names
+-- a set removes itself, and so what is left has other ids
 removes_itself : (p : Stamp) (h : Held) → is_unknown p.clock h ≡ true → same_id p h.stamp ≡ false
 unfolding same_id
 removes_itself p h u = grind (arith, nat_tests)

@@ -35,7 +35,7 @@ pub fn latest_shows_the_greatest()
 {}
 
 /// After the sets of an honest set in any causal order, the register of several texts shows by rising key the texts of
-/// exactly those whose name no other set of it covers.
+/// exactly those whose id no other set of it covers.
 pub fn several_shows_the_unseen()
     ensures { (xs : List (Entry (List ℕ))) → IsHonest xs → AreApart xs → IsCausal xs
         → several_meaning.show (apply_all several_meaning several_meaning.init xs) ≡ texts_of (filter (is_unseen xs) (canonical xs)) }

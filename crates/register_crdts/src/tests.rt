@@ -35,7 +35,7 @@ fn stamp(which: u8) -> Stamp
     }
 }
 
-// The state after the text was set at the stamp. A set that is not valid ends a test as want of memory does.
+// The state after the text was set at the stamp. A set that is not valid ends a test as running out of memory does.
 fn after<T: Tower<Op = Txt>>(
     alloc: Global,
     tower: &T,
@@ -155,7 +155,7 @@ fn texts_have_limits(rt: HostRuntime) -> Result<(), Fail> {
     Ok(())
 }
 
-// What an operation becomes when another acts on it. One that is not valid ends a test as want of memory does.
+// What an operation becomes when another acts on it. One that is not valid ends a test as running out of memory does.
 fn acted<T: Tower<Op = Txt>>(alloc: Global, tower: &T, y: &Txt, x: &Txt) -> Result<Txt, NoMemory> {
     let stamp = stamp(0);
     if tower.valid(&stamp, y) && tower.valid(&stamp, x) {

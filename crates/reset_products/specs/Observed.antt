@@ -34,7 +34,7 @@ module _ {S O : Type 0} (m : Meaning S O) where
     pub rising : IsRising s.log
     pub apart : AreApart s.log
 
-  -- what a state keeps that names only what the clock covers
+  -- what a state keeps that refers only to what the clock covers
   pub record IsGoodLogAt (d : Clock) (s : Logged S O) : Type 0 where
     pub base : m.good_at d s.base
     pub issued : AreIssued m d.n s.log

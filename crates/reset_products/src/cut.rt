@@ -9,7 +9,7 @@ use crdt_laws::Ops;
 use vector_clock::Clock;
 
 /// The length of the longest clean prefix of the log: each operation in it is covered by the clock, and is before each operation
-/// outside it. The log's operations have different names, and are of the clock's document. It takes no memory.
+/// outside it. The log's operations have distinct ids, and are of the clock's document. It takes no memory.
 ///
 /// One pass from the end, with two clocks: `known` is what the clock and all operations outside the prefix know of, and `met`
 /// what the clock and all operations passed so far know of. An operation that `known` does not cover ends the prefix before

@@ -22,7 +22,7 @@ pub enum ObservedOp<Op> {
 pub struct ObservedState<T: Tower> {
     /// What the operations have made that no reset can tell apart any more.
     pub base: T::State,
-    /// The operations since, in canonical order: by strictly rising key, no name twice.
+    /// The operations since, in canonical order: by strictly rising key, no id twice.
     pub log: Ops<T::Op>,
 }
 
@@ -56,7 +56,7 @@ impl<T: Tower> Observed<T> {
         Observed { part }
     }
 
-    /// The document of the log, from the base. The state is good. Only want of memory is refused.
+    /// The document of the log, from the base. The state is good. `NoMemory` comes where it runs out of memory.
     pub fn value(&self, alloc: Global, state: &ObservedState<T>) -> Result<T::State, NoMemory>
         requires { IsState (observed_meaning (T.meaning self.now.part)) state.now }
         ensures value { IfOk result (λ s. s ≡ value_of (T.meaning self.now.part) state.now) }

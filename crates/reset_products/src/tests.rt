@@ -57,7 +57,7 @@ fn second_at(first: u32, second: u32) -> Stamp
     }
 }
 
-// Whether the key of the first is less, and the names differ.
+// Whether the key of the first is less, and the ids differ.
 #[tactic(auto, unfolding(vector_clock::specs::Stamp::is_below, vector_clock::specs::Stamp::is_less, vector_clock::specs::Stamp::same_id))]
 fn comes_before(a: &Stamp, b: &Stamp) -> bool
     requires left { IsStamp a.now }
@@ -68,7 +68,7 @@ fn comes_before(a: &Stamp, b: &Stamp) -> bool
     a.key() < b.key() && a.id() != b.id()
 }
 
-// Whether the stamp has another name and a greater key than each of the entries.
+// Whether the stamp has another id and a greater key than each of the entries.
 fn comes_last<Op>(entries: &[Entry<Op>], stamp: &Stamp) -> bool
     requires stamps { All (λ e. IsStampOf 2 e.stamp) entries.now }
     requires stamp { IsStampOf 2 stamp.now }
@@ -82,7 +82,7 @@ fn comes_last<Op>(entries: &[Entry<Op>], stamp: &Stamp) -> bool
     true
 }
 
-// Operations in canonical order, with one that comes last. Another one ends a test as want of memory does.
+// Operations in canonical order, with one that comes last. Another one ends a test as running out of memory does.
 fn with_next<T: Tower>(
     tower: &T,
     ops: Ops<T::Op>,
