@@ -31,8 +31,8 @@ fn fold_next<T: Tower>(
 
 /// The document of operations in canonical order, from a state: each one is applied as the concurrent ones of higher levels
 /// before it have changed it. The state is good, the operations are valid and of one document, their keys strictly rise, and
-/// their names differ from each other and from those that the state holds. Only want of memory is refused. The time is that of
-/// the number of operations, times that of those above level 1 and one more, times the levels.
+/// their ids differ from each other and from those that the state holds. `NoMemory` comes where it runs out of memory. The
+/// time is that of the number of operations, times that of those above level 1 and one more, times the levels.
 pub fn fold_plain<T: Tower>(
     alloc: Global,
     tower: &T,

@@ -64,8 +64,7 @@ fn place_of<Op>(entries: &[Entry<Op>], stamp: &Stamp) -> usize
     low
 }
 
-/// The entries, whose keys strictly rise, with one more in its place by key. Only want of memory is refused, and then the
-/// entries are gone.
+/// The entries, whose keys strictly rise, with one more in its place by key. Where it runs out of memory the entries are gone.
 pub fn place_in<Op: Drop>(entries: Ops<Op>, stamp: Stamp, op: Op) -> Result<Ops<Op>, NoMemory>
     requires stamp { IsStamp stamp }
     requires stamps { All (λ e. IsStamp e.stamp) entries }

@@ -28,7 +28,7 @@ impl<T: Tower> Model for Woven<T> {
     ghost view = { λ w. record { state = w.state; history = w.history } };
 }
 
-/// The form acts on each entry of a lower level, where it stands. After want of memory it has acted on some.
+/// The form acts on each entry of a lower level, where it stands. After it ran out of memory it has acted on some.
 fn act_on_lower<T: Tower>(
     alloc: Global,
     tower: &T,
@@ -101,7 +101,7 @@ impl<T: Tower> Woven<T> {
 
     /// Nothing has arrived.
     ///
-    /// `NoMemory` comes where there is none for the first state.
+    /// `NoMemory` comes where it runs out of memory.
     pub fn empty(alloc: Global, tower: &T) -> Result<Woven<T>, NoMemory>
         ensures nothing { IfOk result (λ w. w ≡ nothing (T.meaning tower.now)) }
         ensures well { IfOk result (λ w. (n : ℕ) → IsWell (T.meaning tower.now) n w) }
@@ -116,7 +116,7 @@ impl<T: Tower> Woven<T> {
     /// levels. Entries stay where they are; an operation of level 1 leaves the history alone, and one that comes last by key is
     /// put last.
     ///
-    /// `NoMemory` comes where there is none for a form, the state or one entry more; what was woven is then gone.
+    /// `NoMemory` comes where it runs out of memory; what was woven is then gone.
     pub fn deliver(
         self,
         alloc: Global,
@@ -139,7 +139,7 @@ impl<T: Tower> Woven<T> {
 
     /// Settles the state at the clock, and drops the entries that it covers.
     ///
-    /// `NoMemory` comes where there is none for the state or the list; what was woven is then gone.
+    /// `NoMemory` comes where it runs out of memory; what was woven is then gone.
     pub fn trim(self, alloc: Global, tower: &T, k: &Clock) -> Result<Woven<T>, NoMemory>
         requires clock { IsClock k.now }
         requires well { IsWell (T.meaning tower.now) k.now.n self }
