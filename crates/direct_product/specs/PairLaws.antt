@@ -6,7 +6,7 @@ use Rattle.vector_clock.specs.declared.clock.Clock.{Clock}
 use Rattle.vector_clock.specs.declared.stamp.Stamp.{Stamp}
 use Rattle.vector_clock.specs.declared.clock.Id.{Id}
 use Rattle.vector_clock.specs.Clock.{IsAtMost, covers}
-use Rattle.vector_clock.specs.Stamp.{IsAfter, IsStamp, id_of}
+use Rattle.vector_clock.specs.Stamp.{IsAfter, IsKnownTo, IsStamp, id_of}
 use Rattle.crdt_laws.specs.Tower.{Meaning, IsLawful, IsIssued, IsWithin, Lacks, Agrees, MaySwap, WasIssued}
 use Rattle.direct_product.specs.declared.pair.Both.{Both}
 use Rattle.direct_product.specs.declared.pair.PairOp.{PairOp}
@@ -164,6 +164,10 @@ module _ {S T L R : Type 0} (m : Meaning S L) (left : IsLawful m) (w : Meaning T
   good_at-apply d s p (Right x) good h fresh below covered =
       (good.0, right.good_at-apply d s.right p x good.1 (right_issued m w d.n p x h) (right_lacks m w s (id_of p) fresh) below covered)
 
+  good_at-holds : (d : Clock) (s : Both S T) (p : Stamp) → m.good_at d s.left × w.good_at d s.right → pair_holds m w s p → IsKnownTo d p
+  good_at-holds d s p good (inl h) = left.good_at-holds d s.left p good.0 h
+  good_at-holds d s p good (inr h) = right.good_at-holds d s.right p good.1 h
+
   holds-apply : (s : Both S T) (p : Stamp) (x : PairOp L R) (q : Stamp) → pair_holds m w (pair_apply m w s p x) q → (q ≡ p) ⊎ pair_holds m w s q
   holds-apply s p (Left x) q (inl h) = elim (left.holds-apply s.left p x q h) [ inl e ↦ inl e | inr held ↦ inr (inl held) ]
   holds-apply s p (Left x) q (inr h) = inr (inr h)
@@ -213,6 +217,7 @@ module _ {S T L R : Type 0} (m : Meaning S L) (left : IsLawful m) (w : Meaning T
     good_at_later = λ d e s one below h. (left.good_at_later d e s.left one below h.0, right.good_at_later d e s.right one below h.1);
     good_at-apply = good_at-apply;
     good_at-settle = λ d s k h. (left.good_at-settle d s.left k h.0, right.good_at-settle d s.right k h.1);
+    good_at-holds = good_at-holds;
     holds-init = holds-init;
     holds-apply = holds-apply;
     holds-settle = holds-settle;

@@ -7,7 +7,7 @@ use Rattle.serde_json.specs.View.{items_of}
 use Rattle.vector_clock.specs.declared.clock.Clock.{Clock}
 use Rattle.vector_clock.specs.declared.stamp.Stamp.{Stamp}
 use Rattle.vector_clock.specs.Clock.{IsAtMost, covers}
-use Rattle.vector_clock.specs.Stamp.{IsAfter, IsStamp, id_of, are_concurrent}
+use Rattle.vector_clock.specs.Stamp.{IsAfter, IsKnownTo, IsStamp, id_of, are_concurrent}
 use Rattle.crdt_laws.specs.Tower.{Meaning, IsLawful, IsIssued, IsWithin, IsStampOf, Lacks, MaySwap, WasIssued}
 use Rattle.direct_product.specs.declared.row.RowOp.{RowOp}
 use Rattle.direct_product.specs.Row.{MayApply, act_at, apply_at, at_part, formed_at, good_all, good_at_all, holds_any, init_all, level_at, plain_all, row_act, row_meaning, settle_all, show_all, top_of, valid_at}
@@ -206,6 +206,12 @@ module _ {T S O : Type 0} (of : T → Meaning S O) (law : (t : T) → IsLawful (
   good_at_settle d (t ∷ ts) [] k good = good
   good_at_settle d (t ∷ ts) (s ∷ ss) k good = ((law t).good_at-settle d s k good.0, good_at_settle d ts ss k good.1)
 
+  good_at_holds : (d : Clock) (ts : List T) (ss : List S) (p : Stamp) → good_at_all of d ts ss → holds_any of ts ss p → IsKnownTo d p
+  good_at_holds d [] ss p good h = absurd h
+  good_at_holds d (t ∷ ts) [] p good h = absurd h
+  good_at_holds d (t ∷ ts) (s ∷ ss) p good (inl h) = (law t).good_at-holds d s p good.0 h
+  good_at_holds d (t ∷ ts) (s ∷ ss) p good (inr h) = good_at_holds d ts ss p good.1 h
+
   holds_init : (ts : List T) (p : Stamp) → holds_any of ts (init_all of ts) p → ⊥
   holds_init [] p h = h
   holds_init (t ∷ ts) p (inl h) = (law t).holds-init p h
@@ -364,6 +370,7 @@ module _ {T S O : Type 0} (of : T → Meaning S O) (law : (t : T) → IsLawful (
     good_at-apply = λ d s p x good h fresh below covered.
         good_at_apply of law d ts s x.part p x.op good (may_apply d.n s p h.stamp (good_from_at of law d ts s good) fresh) h.valid below covered;
     good_at-settle = λ d s k h. good_at_settle of law d ts s k h;
+    good_at-holds = λ d s p good h. good_at_holds of law d ts s p good h;
     holds-init = holds_init of law ts;
     holds-apply = λ s p x q h. holds_apply of law ts s x.part p x.op q h;
     holds-settle = λ s k q h. holds_settle of law ts s k q h;

@@ -15,7 +15,7 @@ use Rattle.vector_clock.specs.declared.clock.Clock.{Clock}
 use Rattle.vector_clock.specs.declared.clock.Id.{Id}
 use Rattle.vector_clock.specs.declared.stamp.Stamp.{Stamp}
 use Rattle.vector_clock.specs.Clock.{IsAtMost, covers}
-use Rattle.vector_clock.specs.Stamp.{IsAfter, IsStamp, id_of}
+use Rattle.vector_clock.specs.Stamp.{IsAfter, IsKnownTo, IsStamp, id_of}
 use Rattle.crdt_laws.specs.Tower.{Meaning, IsLawful, IsIssued, Agrees, Lacks, MaySwap, WasIssued}
 use Rattle.map_crdt.specs.declared.keyed.KeyOp.{KeyOp}
 use Rattle.map_crdt.specs.declared.keyed.KeyState.{KeyState}
@@ -418,6 +418,10 @@ module _ {S O : Type 0} (m : Meaning S O) (law : IsLawful m) where
       map-put (m.good_at d) es x.key (m.apply (state_at m es x.key) p x.op) good h.valid.0
       (law.good_at-apply d (state_at m es x.key) p x.op before (issued d.n p x h) (lacks es x.key (id_of p) fresh) below covered)
 
+  good_at_holds : (d : Clock) (es : List (KeyState S)) (p : Stamp) → AllByRecursion (λ e. m.good_at d e.state) es → holds_any m es p → IsKnownTo d p
+  good_at_holds d [] p good h = absurd h
+  good_at_holds d (e ∷ es) p good h = elim h [ inl a ↦ law.good_at-holds d e.state p good.0 a | inr b ↦ good_at_holds d es p good.1 b ]
+
   holds_put : (es : List (KeyState S)) (k : List ℕ) (v : S) (q : Stamp) → holds_any m (put es k v) q → m.holds v q ⊎ holds_any m es q
   holds_put [] k v q h = h
   holds_put (e ∷ es) k v q h =
@@ -475,6 +479,7 @@ module _ {S O : Type 0} (m : Meaning S O) (law : IsLawful m) where
     good_at_later = λ d e es one below h. weaker (m.good_at d) (m.good_at e) es (λ s k. law.good_at_later d e s one below k) h;
     good_at-apply = good_at_apply;
     good_at-settle = λ d es c h. good_settled (m.good_at d) es c (λ s k. law.good_at-settle d s c k) h;
+    good_at-holds = λ d es p good h. good_at_holds d es p good.states h;
     holds-init = λ p h. h;
     holds-apply = holds_apply;
     holds-settle = holds_settle;
