@@ -32,8 +32,8 @@ pub fn fair_runs<T: Tower>(tower: &T)
         → thing_at (lab_run (T.meaning tower.now) made [] lines).lab name ≡ Some (replica r) → IsClosed r.delivered }
 {}
 
-/// In an honest lab what each replica has in is a closed set, and each replica may merge each batch. Two replicas with the
-/// same operations in print the same text.
+/// In an honest lab what each replica has in is a causally closed set, and each replica may merge each batch. Two replicas
+/// with the same operations in print the same text.
 pub fn honest_labs<T: Tower>(tower: &T)
     ensures closed { (lab : Lab T.Op) (name : List ℕ) (r : Replica T.Op) → IsHonestLab (T.meaning tower.now) lab → thing_at lab name ≡ Some (replica r) → IsClosed r.delivered }
     ensures meets { (lab : Lab T.Op) (name other : List ℕ) (r : Replica T.Op) (b : Batch T.Op) → IsHonestLab (T.meaning tower.now) lab

@@ -11,7 +11,7 @@ pub enum Refusal {
     Exists(FileName),
     /// There is nothing of this name.
     Missing(FileName),
-    /// The file is no table. Want of memory is no such fault, and ends the call.
+    /// The file is no table. Running out of memory is no such fault, and ends the call.
     Table(TableFault),
 }
 

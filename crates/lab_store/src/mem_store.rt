@@ -86,7 +86,7 @@ impl Files {
         bytes_of(self.items.as_slice(), name)
     }
 
-    /// Puts the bytes in the place of the file of this name, or last. After want of memory nothing has changed.
+    /// Puts the bytes in the place of the file of this name, or last. After it ran out of memory nothing has changed.
     pub fn put(&mut self, alloc: Global, name: &str, bytes: &[u8]) -> Result<(), NoMemory>
         ensures ok { OnOk result (pairs self.new.items.items ≡ with_file (pairs self.old.items.items) name.now bytes.now) }
         ensures err { OnErr result (pairs self.new.items.items ≡ pairs self.old.items.items) }
@@ -106,7 +106,7 @@ impl Files {
 /// That a call of a store fails.
 #[derive(Clone, Copy, Debug, PartialEq, Eq)]
 pub struct Fail {
-    /// The number of the call, counted from 0. Fetches and replaces are counted together.
+    /// The number of the call, counted from 0. Fetches and replaces share one count.
     pub call: u32,
     /// Whether a replace that fails leaves the new bytes.
     pub late: bool,

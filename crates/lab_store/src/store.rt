@@ -12,7 +12,7 @@ pub enum StoreError {
     Failed,
     /// The file has more bytes than were asked for.
     Long,
-    /// There was no memory for the answer.
+    /// The call ran out of memory.
     NoMemory,
 }
 

@@ -36,7 +36,7 @@ pub trait Sink {
     /// How many bytes can be put before there is need of more memory.
     ghost spare: { Self → ℕ };
 
-    /// Makes room for so many bytes more. Refuses for want of memory alone.
+    /// Makes room for so many bytes more. `NoMemory` comes where it runs out of memory.
     fn room(&mut self, alloc: Global, more: u64) -> Result<(), NoMemory>
         ensures spare { OnOk result (more ≤ spare self.new) }
         ensures told { told self.new ≡ told self.old }

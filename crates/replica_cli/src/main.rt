@@ -11,7 +11,7 @@ use std::env::{self, Env};
 use std::io::{self, ErrorKind};
 use std::process::ExitCode;
 
-/// The status where the arguments are not read for want of memory.
+/// The status where the arguments are not read because it ran out of memory.
 const NO_MEMORY: u8 = 3;
 
 /// The status where the arguments are not read for another cause, such as bytes that are not UTF-8. No command ends with it.

@@ -308,7 +308,7 @@ module _ (before after : Option (List ℕ)) where
   refusal_ends (Err stop.Store) put refused others = absurd (store_others others)
   refusal_ends (Err stop.Long) put refused others = absurd (long_others others)
 
--- ---- there was no memory to read the words
+-- ---- it ran out of memory where the words were read
 
 nothing_put_part : (told : Option (List ℕ)) (text : List ℕ) → AppendsPart told told text
 nothing_put_part told text = (0, nothing_put told)
@@ -349,7 +349,7 @@ run_of words left files before after command e r done same puts = record {
   refusals = refusals_of before after r puts;
 }
 
--- a refusal of words that is stopped is stopped by the sink or for want of memory
+-- a refusal of words that is stopped is stopped by the sink, or where it ran out of memory
 pub refusal_same : (before after : Option (List ℕ)) (r : Result Bool Stop) → OnErr r ((r ≡ Err stop.Sink) ⊎ (r ≡ Err stop.NoMemory))
     → IsErrOf r stop.Source ⊎ (IsErrOf r stop.Store ⊎ IsErrOf r stop.Long) → after ≡ before
 refusal_same before after (Ok bad) others (inl h) = cc

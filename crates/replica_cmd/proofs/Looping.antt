@@ -150,7 +150,7 @@ follows_end lines k lab start told refused old = record {
     or_false true = refl
     or_false false = refl
 
--- the sink failed at a line, or there was no memory for it
+-- the sink failed at a line, or it ran out of memory
 pub follows_part : (lines : List (List ℕ)) (line : List ℕ) (rest : List (List ℕ)) (k : ℕ) (lab : Lab NumberOp) (start told after : Option (List ℕ)) (refused : Bool)
     → Follows lines (line ∷ rest) k lab start told refused → (IsHonestLab number_meaning lab → AppendsPart told after (lab_step number_meaning number_op lab line).text)
     → AppendsPart start after (run_text lines)

@@ -56,7 +56,7 @@ abbrev pub AreFairLines : List (List ℕ) → Type 0
 AreFairLines lines = AreFair number_meaning number_op [] lines
 
 -- The lines were run: they put the text that the definition gives, and leave an honest lab, so that what each replica has
--- delivered is closed.
+-- delivered is causally closed.
 pub record ArePlayed (lines : List (List ℕ)) (before after : Option (List ℕ)) (refused : Bool) : Type 0 where
   pub text : Appends before after (run_text lines)
   pub refusals : refused ≡ run_refused lines
@@ -68,7 +68,7 @@ Ends status = (status ≡ 0) ⊎ (status ≡ 2)
 
 -- What a call with the one word play does, where the source had these bytes left and the sink told these before and after it.
 pub record PlaysScript (left before after : Option (List ℕ)) (status : ℕ) : Type 0 where
-  -- fair lines of a whole script put the text of their run, and part of it where there was no memory or the sink failed
+  -- fair lines of a whole script put the text of their run, and part of it where it ran out of memory or the sink failed
   pub played : (script : List ℕ) → left ≡ Some script → AreFairLines (lines_of script) → Ends status
       → ArePlayed (lines_of script) before after (status == 2)
   pub part : (script : List ℕ) → left ≡ Some script → AreFairLines (lines_of script) → (status ≡ 3) ⊎ (status ≡ 6)
@@ -84,7 +84,7 @@ pub record ChecksTable (files : Option (List (List ℕ × List ℕ))) (table : L
   -- it puts what is found, with status 2 exactly where that is a fault or a broken law, and part of it where the sink failed
   pub found : (all : List (List ℕ × List ℕ)) → files ≡ Some all → Ends status → PutsFinding (file_at all table) table before after (status == 2)
   pub part : (all : List (List ℕ × List ℕ)) → files ≡ Some all → status ≡ 6 → PutsPart (file_at all table) table before after
-  -- without memory it puts nothing
+  -- where it ran out of memory it puts nothing
   pub nothing : status ≡ 3 → after ≡ before
   -- a file that is looked at is short, and one that is too long is not
   pub short : (all : List (List ℕ × List ℕ)) (bytes : List ℕ) → files ≡ Some all → file_at all table ≡ Some bytes → Ends status ⊎ (status ≡ 6)

@@ -9,7 +9,7 @@ use Rattle.replica_cmd.specs.Number.{number_meaning, number_op, NumberOp}
 use Rattle.replica_cmd.specs.Run.{is_bad, IsEnded}
 use Rattle.replica_cmd.specs.Things.{IsKeptLab, IsLabUpTo}
 
--- the member that a command names is one of the document
+-- the member of a command is one of the document
 abbrev pub HasMember : Command → Type 0
 HasMember (New file member) = member < pair_members
 HasMember (Edit file verb amount) = Unit {0}

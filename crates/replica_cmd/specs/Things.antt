@@ -31,7 +31,7 @@ lab_of items = map pair_of items
 abbrev pub contents : lab.Lab → Lab NumberOp
 contents l = lab_of l.things.items
 
--- the replica under a name, or the cause for which a line that wants one is refused
+-- the replica under a name, or the cause for which a line that needs one is refused
 abbrev pub replica_or : List ℕ → Option (Thing NumberOp) → Result (Replica NumberOp) Refusal
 replica_or file (Some (family.replica r)) = Ok r
 replica_or file (Some (family.batch b)) = Err Unbuilt
@@ -41,7 +41,7 @@ replica_or file None = Err (Missing file)
 pub record IsPlaceOf (before after : Lab NumberOp) (place : ℕ) (name : List ℕ) : Type 0 where
   pub back : (t : Thing NumberOp) → insert after place (name, t) ≡ with_thing before name t
 
--- an answer is the effect that the lab then shows, or the cause of a refusal, or that there was no memory
+-- an answer is the effect that the lab then shows, or the cause of a refusal, or that it ran out of memory
 abbrev pub Answers : Result (String Global) Hindrance → Lab NumberOp → Result (Effect NumberOp) Refusal → Type 0
 Answers (Ok text) after done = done ≡ Ok (effect after (string_bytes text))
 Answers (Err (Refused cause)) after done = done ≡ Err cause

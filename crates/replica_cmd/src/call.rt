@@ -90,7 +90,7 @@ fn obey<K: Store, S: Source, W: Sink>(
 /// |---|---|
 /// | 0 | where all lines were accepted, or the table is lawful |
 /// | 2 | where a line or the words were refused, the file is no table, or the table is broken |
-/// | 3 | for want of memory, at any point |
+/// | 3 | where it ran out of memory, at any point |
 /// | 4 | only where the source failed, or the store at a fetch |
 /// | 6 | only where the sink failed |
 /// | 7 | where the script has more than 32,768 bytes, or the file more than 67,108,864 |

@@ -4,7 +4,7 @@ use std::alloc::{AllocError, AllocFailed};
 /// Why a call ends before the last line of its script.
 #[derive(Clone, Copy, Debug, PartialEq, Eq)]
 pub(crate) enum Stop {
-    /// There was no memory.
+    /// The call ran out of memory.
     NoMemory,
     /// The source failed.
     Source,

@@ -24,7 +24,7 @@ pub(crate) struct Named {
 pub(crate) enum Hindrance {
     /// It is refused.
     Refused(Refusal),
-    /// There was no memory for it.
+    /// It ran out of memory.
     NoMemory,
 }
 

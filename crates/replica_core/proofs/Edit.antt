@@ -109,7 +109,7 @@ rising_push : {Op : Type 0} (x : Entry Op) (xs : List (Entry Op)) → AllByRecur
 rising_push x [] h r = (tt, tt)
 rising_push x (a ∷ xs) h r = (all-append (λ d. is_below a.stamp d.stamp ≡ true) xs (x ∷ []) r.0 (h.0, tt), rising_push x xs h.1 r.1)
 
--- a replica keeps what it does at another name of its number of members
+-- a replica keeps the same where its number of members is written in another way
 pub kept_from : {State Op : Type 0} (m : Meaning State Op) (r : Replica Op) (n : ℕ) → n ≡ members r → r.me < n → n ≤ max_members → All (IsKnown n) r.known → row r.known r.me ≡ version n r.delivered → AreKept m n r.delivered → AreKept m n r.waiting → IsKept m r
 kept_from m r n e = subst (λ k. r.me < k → k ≤ max_members → All (IsKnown k) r.known → row r.known r.me ≡ version k r.delivered → AreKept m k r.delivered → AreKept m k r.waiting → IsKept m r) (sym e)
     (λ a b d f h i. record { member = a; most = b; rows = d; own = f; delivered = h; waiting = i })

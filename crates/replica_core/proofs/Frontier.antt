@@ -64,7 +64,7 @@ in_order_from all h (a ∷ xs) c r = (
 pub in_order : {Op : Type 0} (xs : List (Entry Op)) → IsHonest xs → IsRising xs → IsInOrder xs
 in_order xs h r = in_order_from xs h xs (each xs) r
 
--- whether the operation has the name
+-- whether the operation has the id
 abbrev named : {Op : Type 0} → ℕ → ℕ → Entry Op → Bool
 named m s e = (e.stamp.member == m) && (seq_of e == s)
 
@@ -74,7 +74,7 @@ is_named m s e h k = grind (arith, nat_tests)
 named_is : {Op : Type 0} (m s : ℕ) (e : Entry Op) → named m s e ≡ true → (e.stamp.member ≡ m) × (seq_of e ≡ s)
 named_is m s e h = (grind (arith, nat_tests), grind (arith, nat_tests))
 
--- a name that is there is above those of the operations before it
+-- an id that is there is above those of the operations before it
 above : {Op : Type 0} (m s t : ℕ) (xs : List (Entry Op)) → AllByRecursion (λ b. b.stamp.member ≡ m → t < seq_of b) xs → list_any (named m s) xs ≡ true → t < s
 above m s t [] h k = absurd cc
 above m s t (e ∷ xs) h k = go (named m s e) refl k (above m s t xs h.1)
@@ -83,7 +83,7 @@ above m s t (e ∷ xs) h k = go (named m s e) refl k (above m s t xs h.1)
     go true q j ih = (let n = named_is m s e q in subst (λ z. t < z) n.1 (h.0 n.0))
     go false q j ih = ih j
 
--- Where counting goes from k to f over the operations: the names between are there, and the next one is not.
+-- Where counting goes from k to f over the operations: the ids between are there, and the next one is not.
 record Runs {Op : Type 0} (m k f : ℕ) (xs : List (Entry Op)) : Type 0 where
   grows : k ≤ f
   filled : (s : ℕ) → k < s → s ≤ f → list_any (named m s) xs ≡ true

@@ -1,4 +1,4 @@
--- How far the names of operations run without a gap.
+-- How far the ids of operations run without a gap.
 use Rattle.std.specs.Prelude.{ℕ, ◌+◌, List, Bool, ◌==◌, nat_le, fold, if◌then◌else◌}
 use Rattle.std.specs.List.{list_all, range_with_len}
 use Rattle.vector_clock.specs.declared.clock.Clock.{Clock}

@@ -45,7 +45,7 @@ fn copy_ops<T: Tower>(
     Ok(copies)
 }
 
-/// A copy of the batch. `NoMemory` comes where there is none for it.
+/// A copy of the batch. `NoMemory` comes where it runs out of memory.
 pub fn copy_batch<T: Tower>(
     alloc: Global,
     tower: &T,

@@ -42,7 +42,7 @@ impl<T: Tower> Replica<T> {
 
     /// A replica that has nothing, of the member `me` in a document with `n` members.
     ///
-    /// `NoMemory` comes where there is none for the rows.
+    /// `NoMemory` comes where it runs out of memory.
     #[tactic(auto, unfolding(replica_model::specs::Replica::new_replica))]
     pub fn new(alloc: Global, doc: Txt, me: u8, n: u8) -> Result<Replica<T>, NoMemory>
         requires member { me < n }
@@ -83,7 +83,7 @@ impl<T: Tower> Replica<T> {
     /// The replica after an operation of its own member, which the tower calls valid at the next stamp. Its key is the
     /// greatest, since its stamp knows of all that is in, so it stands last.
     ///
-    /// `NoMemory` comes where there is none for one operation more; the replica is then gone.
+    /// `NoMemory` comes where it runs out of memory; the replica is then gone.
     pub fn edit(self, alloc: Global, tower: &T, op: T::Op) -> Result<Replica<T>, NoMemory>
         requires kept { IsKept (T.meaning tower.now) self }
         requires valid { (T.meaning tower.now).valid (next_stamp self) op }
@@ -112,7 +112,7 @@ impl<T: Tower> Replica<T> {
     /// A batch for one member: the operations that are in, but for those that it is known to have. Where no member is given,
     /// but for those that all members are known to have.
     ///
-    /// `NoMemory` comes where there is none for the copies.
+    /// `NoMemory` comes where it runs out of memory.
     pub fn export(&self, alloc: Global, tower: &T, to: Option<u8>) -> Result<Batch<T::Op>, NoMemory>
         requires kept { IsKept (T.meaning tower.now) self.now }
         requires to { IfSome to (λ j. j < members self.now) }
@@ -136,7 +136,7 @@ impl<T: Tower> Replica<T> {
     /// that knows of an operation which is not there waits. Each row is joined with the clocks of its member's operations, and
     /// the sender's row with the header too, once all operations of the sender that the header counts are in.
     ///
-    /// `NoMemory` comes where there is none for the lists; the replica and the batch are then gone.
+    /// `NoMemory` comes where it runs out of memory; the replica and the batch are then gone.
     pub fn merge(
         self,
         alloc: Global,

@@ -1,4 +1,4 @@
--- The version of a closed set counts the operations of each member.
+-- The version of a causally closed set counts the operations of each member.
 use Rattle.std.proofs.Common.{◌≡◌, ℕ, zero, suc, ◌+◌, ◌<◌, ◌≤◌, Bool, false, List, [], ◌∷◌, eqb, map, ap, ap₂, sym, ◌∙◌, subst, arith, Contains, inl, inr}
 use Rattle.std.specs.Prelude.{nat_eq, filter, count_by}
 use Rattle.std.specs.List.{IsDistinct, range_with_len}

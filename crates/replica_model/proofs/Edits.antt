@@ -118,7 +118,7 @@ module _ {Op : Type 0} (zs : List (Entry Op)) (n : ℕ) (r : Replica Op) (may : 
   new_id : id_of (next_stamp r) ≡ record { member = r.me; seq = count k r.me + 1 }
   new_id = ap (λ (s : ℕ). record { member = r.me; seq = s }) new_seq
 
-  -- no operation knows of the new name
+  -- no operation knows of the new id
   pub unknown : (a : Entry Op) → Contains zs a → covers a.stamp.clock (id_of (next_stamp r)) ≡ true → ⊥
   unknown a c cov =
       let found = may.closed.each a (id_of (next_stamp r)) c (let s = new_seq in omega arith) cov in
@@ -136,7 +136,7 @@ module _ {Op : Type 0} (zs : List (Entry Op)) (n : ℕ) (r : Replica Op) (may : 
   fresh : (a : Entry Op) → Contains zs a → same_id a.stamp (next_stamp r) ≡ false
   fresh a c = false_from_ne_true (same_id a.stamp (next_stamp r)) (λ s. new_name a c (same_id_is a.stamp (next_stamp r) s))
 
-  -- a name that the version covers is in, so its operation is
+  -- an id that the version covers is there, and so its operation is in
   covered_in : (b : Entry Op) → Contains zs b → 1 ≤ count b.stamp.clock b.stamp.member → covers k (id_of b.stamp) ≡ true → Contains r.delivered b
   covered_in b c counted cov =
       let found = version_has (members r) r.delivered delivered_stamped may.sound.closed (id_of b.stamp) counted cov in

@@ -1,4 +1,4 @@
--- Which names a set has, and whether it has all that a clock covers.
+-- Which ids a set has, and whether it has all that a clock covers.
 use Rattle.std.proofs.Common.{◌≡◌, ℕ, zero, suc, ◌+◌, ◌<◌, ◌≤◌, Bool, true, false, List, refl, ap, ap₂, sym, ◌∙◌, arith, Contains, get_or, inl, inr, eqb}
 use Rattle.std.specs.Prelude.{◌&&◌}
 use Rattle.std.specs.List.{Any, All, list_all, range_with_len}
@@ -21,7 +21,7 @@ any_from P xs x c p = (c.0, x, c.1, c.2, p)
 pub all_from_contains : {X : Type 0} (P : X → Type 0) (xs : List X) → ((x : X) → Contains xs x → P x) → All P xs
 all_from_contains P xs h = λ k d l. h (get_or xs k d) (Contains-get_or xs k d l)
 
--- names
+-- ids
 
 pub is_id : (p : Stamp) (i : Id) → (eqb p.member i.member && eqb (count p.clock p.member) i.seq) ≡ true → id_of p ≡ i
 is_id p i h =
@@ -46,7 +46,7 @@ has_name_from {Op} xs e i c h =
     list_any-from_Any (λ (e : Entry Op). eqb e.stamp.member i.member && eqb (count e.stamp.clock e.stamp.member) i.seq) xs
     (any_from _ xs e c (is_id_from e.stamp i h))
 
--- the operation with the name
+-- the operation with the id
 pub named_in : {Op : Type 0} (xs : List (Entry Op)) (i : Id) → has_id xs i ≡ true → (e : Entry Op) × Contains xs e × (id_of e.stamp ≡ i)
 named_in {Op} xs i h =
     let a = Any-from_list_any (λ (e : Entry Op). eqb e.stamp.member i.member && eqb (count e.stamp.clock e.stamp.member) i.seq) xs h in
@@ -95,7 +95,7 @@ from_all_names xs k h =
     (λ m l u. in_all (λ s. has_id xs (record { member = m; seq = s })) 1 (count k m)
     (λ s v w. h (record { member = m; seq = s }) (omega arith) v (le-leb s (count k m) (omega arith))))
 
--- a name that is missing
+-- an id that is missing
 pub record Misses {Op : Type 0} (xs : List (Entry Op)) (k : Clock) : Type 0 where
   pub name : Id
   pub member : name.member < max_members

@@ -13,7 +13,7 @@ use Rattle.replica_model.proofs.Names.{all_from_contains}
 pub each_from : {X : Type 0} (P : X → Type 0) (xs : List X) → ((x : X) → Contains xs x → P x) → AllByRecursion P xs
 each_from P xs h = recursion_from_All P xs (all_from_contains P xs h)
 
--- both sets together
+-- the union of both sets
 
 pub in_union : {Op : Type 0} (xs ys : List (Entry Op)) (e : Entry Op) → Contains (union xs ys) e → Contains (xs ++ ys) e
 in_union xs ys e c = elim (union_from xs ys e c) [ inl i ↦ Contains-append_left xs ys e i | inr j ↦ Contains-append_right xs ys e j ]
@@ -26,7 +26,7 @@ union_has zs xs ys h part e c =
       | inr j ↦ union_second xs ys e (honest_part zs (xs ++ ys) h part) j
     ]
 
--- what a replica and a batch have together
+-- the union of what a replica and a batch have
 
 module _ {Op : Type 0} (r : Replica Op) (b : Batch Op) (may : MayMerge r b) where
   abbrev all_ops : List (Entry Op)

@@ -1,4 +1,4 @@
--- What is ready in an honest set is closed, and what is not ready has cause to wait.
+-- What is ready in an honest set is causally closed, and what is not ready has cause to wait.
 use Rattle.std.proofs.Common.{◌≡◌, ◌<◌, ◌≤◌, Bool, true, false, List, sym, subst, arith, Contains, inl, inr, ◌⊎◌}
 use Rattle.std.specs.Prelude.{not}
 use Rattle.std.specs.List.{Any}
@@ -66,7 +66,7 @@ ready_closed {Op} xs stamped honest = record { each = each }
         (λ j w n d. all_names xs a.stamp.clock all j w n (covers_on b.stamp.clock a.stamp.clock j known d)) in
         any_from (λ (e : Entry Op). id_of e.stamp ≡ i) (ready xs) b (filter_has p xs b found.1 whole) found.2
 
--- all of a closed part is ready
+-- all of a causally closed part is ready
 pub closed_ready : {Op : Type 0} (xs ys : List (Entry Op)) → ((e : Entry Op) → Contains xs e → IsStamp e.stamp) → IsClosed ys
     → ((e : Entry Op) → Contains ys e → Contains xs e) → (e : Entry Op) → Contains ys e → Contains (ready xs) e
 closed_ready {Op} xs ys stamped closed part e c =
@@ -75,7 +75,7 @@ closed_ready {Op} xs ys stamped closed part e c =
     let found = closed.each e i c counted covered in
     has_name_from xs found.1 i (part found.1 (found.0, found.2, found.3)) found.4))
 
--- an operation that is not ready misses a name
+-- an operation that is not ready misses an id
 pub unready_misses : {Op : Type 0} (xs : List (Entry Op)) (e : Entry Op) → Contains (unready xs) e → Misses xs e.stamp.clock
 unready_misses {Op} xs e c =
     missing_name xs e.stamp.clock (not-true (has_all_of xs e.stamp.clock) (filter_passed (λ (e : Entry Op). not (has_all_of xs e.stamp.clock)) xs e c))

@@ -1,4 +1,4 @@
--- What a set of operations knows of: the version covers just the names of a closed set.
+-- What a set of operations knows of: the version covers just the ids of a causally closed set.
 use Rattle.std.proofs.Common.{◌≡◌, ℕ, ◌+◌, ◌<◌, ◌≤◌, true, List, [], ◌∷◌, max, replicate, refl, ap, ap₂, sym, ◌∙◌, subst, arith, Contains, length, inl, inr, ◌⊎◌}
 use Rattle.std.specs.Prelude.{fold}
 use Rattle.std.specs.List.{Any}
@@ -102,7 +102,7 @@ module _ {Op : Type 0} (n : ℕ) (xs : List (Entry Op)) (stamped : (e : Entry Op
   version_knows e c =
       at_most_below e.stamp.clock (version n xs) (stamped e c).stamp.clock.wide (λ m h. joined_each (zero_clock n) xs m h e c)
 
-  -- each name that it covers is there
+  -- each id that it covers is there
   pub version_has : IsClosed xs → (i : Id) → 1 ≤ i.seq → covers (version n xs) i ≡ true → Any (λ (b : Entry Op). id_of b.stamp ≡ i) xs
   version_has closed i counted c =
       let l : i.seq ≤ count (version n xs) i.member = leb-true i.seq (count (version n xs) i.member) c in
@@ -151,7 +151,7 @@ module _ (k : Clock) (me : ℕ) (wide : length k.at ≡ max_members) (within : m
     ];
   }
 
-  -- what it covers is the new name, or was covered
+  -- what it covers is the new id, or was covered
   pub more_covers : (i : Id) → covers more i ≡ true → (i ≡ record { member = me; seq = count k me + 1 }) ⊎ (covers k i ≡ true)
   more_covers i c =
       let l : i.seq ≤ count more i.member = leb-true i.seq (count more i.member) c in

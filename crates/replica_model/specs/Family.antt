@@ -31,14 +31,15 @@ operations_of (batch b) = b.ops
 abbrev pub operations : {Op : Type 0} → List (Thing Op) → List (Entry Op)
 operations ts = flat_map operations_of ts
 
--- the clock of e covers a name that no operation of the set has
+-- the clock of e covers an id that no operation of the set has
 pub record WaitsIn {Op : Type 0} (xs : List (Entry Op)) (e : Entry Op) : Type 0 where
   pub name : Id
   pub counted : 1 ≤ name.seq
   pub covered : IsTrue (covers e.stamp.clock name)
   pub absent : has_id xs name ≡ false
 
--- a replica of a document with n members: what is delivered is closed, what waits is not delivered and has cause to wait
+-- a replica of a document with n members: what is delivered is causally closed, what waits is not delivered and has cause to
+-- wait
 pub record IsSoundReplica {Op : Type 0} (n : ℕ) (r : Replica Op) : Type 0 where
   pub member : r.me < n
   pub rows : length r.known ≡ n
@@ -49,7 +50,7 @@ pub record IsSoundReplica {Op : Type 0} (n : ℕ) (r : Replica Op) : Type 0 wher
   pub waits : All (WaitsIn (r.delivered ++ r.waiting)) r.waiting
 
 -- A replica and a batch that honest members made: their operations together are an honest set, each list of them is by
--- key, and what is delivered is closed.
+-- key, and what is delivered is causally closed.
 pub record MayMerge {Op : Type 0} (r : Replica Op) (b : Batch Op) : Type 0 where
   pub honest : IsHonest ((r.delivered ++ r.waiting) ++ b.ops)
   pub stamped : All (λ e. IsStamp e.stamp) ((r.delivered ++ r.waiting) ++ b.ops)
@@ -58,8 +59,8 @@ pub record MayMerge {Op : Type 0} (r : Replica Op) (b : Batch Op) : Type 0 where
   pub waiting_by_key : IsRising r.waiting
   pub batch_by_key : IsRising b.ops
 
--- Each member has one replica. All operations together are an honest set, and each was issued by the member that it
--- names and is in that member's replica. Each replica is sound, and each batch is by key.
+-- Each member has one replica. All operations together are an honest set, and each is in the replica of the member that issued
+-- it. Each replica is sound, and each batch is by key.
 pub record IsHonestFamily {State Op : Type 0} (m : Meaning State Op) (n : ℕ) (ts : List (Thing Op)) : Type 0 where
   pub one_each : IsDistinct nat_eq (map (λ r. r.me) (replicas ts))
   pub honest : IsHonest (operations ts)

@@ -9,7 +9,7 @@ ghost use Rattle.replica_model.specs.Family.{Thing, replica, batch, replicas, Is
 
 use crdt_laws::Tower;
 
-/// A merge delivers a closed set. It loses nothing that was in, and neither loses nor makes an operation.
+/// A merge delivers a causally closed set. It loses nothing that was in, and neither loses nor makes an operation.
 pub fn merging<Op>()
     ensures delivers_closed { (r : Replica Op) (b : Batch Op) → MayMerge r b → IsClosed (merged r b).delivered }
     ensures grows { (r : Replica Op) (b : Batch Op) → MayMerge r b → (e : Entry Op) → Contains r.delivered e → Contains (merged r b).delivered e }
@@ -49,8 +49,8 @@ pub fn family_goes_on<T: Tower>(tower: &T)
         → Contains (xs ++ replica r ∷ ys) (batch b) → IsHonestFamily (T.meaning tower.now) n (xs ++ replica (merged r b) ∷ ys) }
 {}
 
-/// An honest family stays honest when a replica is exported, be it in the place of an older batch, and when a batch is
-/// copied or lost.
+/// An honest family stays honest when a replica is exported, be it in the place of an older batch, and when a batch comes
+/// twice or is lost.
 pub fn family_sends<T: Tower>(tower: &T)
     ensures exported { (n : ℕ) (xs ys : List (Thing T.Op)) (r : Replica T.Op) (to : Option ℕ) → IsHonestFamily (T.meaning tower.now) n (xs ++ ys)
         → Contains (xs ++ ys) (replica r) → IsHonestFamily (T.meaning tower.now) n (xs ++ batch (exported r to) ∷ ys) }
