@@ -4,7 +4,6 @@ use Rattle.std.specs.List.{All, AllByRecursion}
 use Rattle.std.proofs.lemmas.Result.{on_ok_weaker}
 use Rattle.std.proofs.lemmas.Bool.{true_from_ne_false}
 use Rattle.std.proofs.lemmas.List.Elements.{All-drop, Contains-append_left, Contains-append_right}
-use Rattle.vector_clock.specs.declared.stamp.Stamp.{Stamp}
 use Rattle.vector_clock.specs.Stamp.{IsStamp, is_below, same_id}
 use Rattle.vector_clock.proofs.Keys.{key_either, key_level, key_trans}
 use Rattle.crdt_laws.specs.declared.small.Entry.{Entry}

@@ -1,5 +1,5 @@
 -- The laws of plain towers, from those that differ from one to the next.
-use Rattle.std.proofs.Common.{◌≡◌, ℕ, ◌<◌, ◌≤◌, ap, inr, subst, sym, ◌∙◌, arith}
+use Rattle.std.proofs.Common.{◌≡◌, ℕ, ◌<◌, ◌≤◌, ap, subst, sym, ◌∙◌, arith}
 use Rattle.std.specs.Prelude.{IsTrue}
 use Rattle.vector_clock.specs.declared.clock.Clock.{Clock}
 use Rattle.vector_clock.specs.declared.stamp.Stamp.{Stamp}

@@ -1,10 +1,10 @@
 -- Sets of operations. A set is given as a list, and its one list by key is the canonical list.
-use Rattle.std.specs.Prelude.{ℕ, List, [], ◌∷◌, ◌++◌, Bool, ◌&&◌, ◌==◌, not, IsTrue, IsFalse, if◌then◌else◌}
-use Rattle.std.specs.List.{All, AllByRecursion, AllPairs, filter, list_all, list_any, range_with_len}
+use Rattle.std.specs.Prelude.{ℕ, List, [], ◌∷◌, ◌++◌, Bool, ◌&&◌, ◌==◌, not, IsFalse}
+use Rattle.std.specs.List.{All, AllPairs, filter, list_all, list_any, range_with_len}
 use Rattle.vector_clock.specs.declared.clock.Clock.{Clock}
 use Rattle.vector_clock.specs.declared.clock.Id.{Id}
 use Rattle.vector_clock.specs.Clock.{count, max_members}
-use Rattle.vector_clock.specs.Stamp.{id_of, is_before, is_below, same_id}
+use Rattle.vector_clock.specs.Stamp.{id_of, is_before}
 use Rattle.vector_clock.specs.Sets as stamped
 use Rattle.crdt_laws.specs.declared.small.Entry.{Entry}
 use Rattle.crdt_laws.specs.Tower.{Meaning, IsIssued}

@@ -4,7 +4,7 @@ ghost use Rattle.vector_clock.specs.Clock.{IsClock, count};
 ghost use Rattle.vector_clock.specs.Stamp.{IsStamp};
 ghost use Rattle.crdt_laws.specs.Sets.{IsRising};
 
-use crate::{Entry, List, NoMemory, Ops, Txt, union};
+use crate::{Entry, List, NoMemory, Ops, Txt, beyond, place_in, union};
 use std::alloc::Global;
 use std::test::Fail;
 use vector_clock::{Clock, Stamp};
@@ -63,6 +63,27 @@ fn joins_sets_by_key(rt: HostRuntime) -> Result<(), Fail> {
     }
     assert_eq!(rt; ops.items.as_slice(), [1, 2, 3].as_slice());
     assert_eq!(rt; all.len(), 3);
+    Ok(())
+}
+
+// An operation is put in its place, and then what a third one knew of is left out.
+#[test]
+fn places_by_key_and_leaves_out(rt: HostRuntime) -> Result<(), Fail> {
+    let first = Stamp {
+        member: 0,
+        clock: knows(1, 0),
+    };
+    let third = Stamp {
+        member: 0,
+        clock: knows(3, 1),
+    };
+    let ops = place_in(alone(rt.alloc(), third, 3)?, first, 1)?;
+    assert_eq!(rt; ops.get(0).map(|e| e.op), Some(1));
+    assert_eq!(rt; ops.get(1).map(|e| e.op), Some(3));
+    assert_eq!(rt; ops.get(2).map(|e| e.op), None);
+    let rest = beyond(ops, &knows(1, 1));
+    assert_eq!(rt; rest.len(), 1);
+    assert_eq!(rt; rest.get(0).map(|e| e.op), Some(3));
     Ok(())
 }
 

@@ -17,6 +17,10 @@ fn knows(first: u32, second: u32, third: u32) -> Clock
     Clock::zero(3).with(0, first).with(1, second).with(2, third)
 }
 
+fn key_of((sum, member, seq): (u64, u8, u32)) -> Key {
+    Key { sum, member, seq }
+}
+
 #[test]
 fn orders_operations(rt: HostRuntime) {
     let first = Stamp {
@@ -55,4 +59,25 @@ fn joins_and_meets(rt: HostRuntime) {
     assert_eq!(rt; left.count(20), 0);
     assert!(rt; left.covers(Id { member: 0, seq: 5 }) && !left.covers(Id { member: 0, seq: 6 }));
     assert!(rt; !left.le(&right) && !right.le(&left) && left.le(&knows(5, 1, 1)));
+}
+
+// The last member of the largest document counts as the others do.
+#[test]
+fn counts_sixty_four_members(rt: HostRuntime) {
+    let last = Clock::zero(64).with(63, 7);
+    assert_eq!(rt; last.count(63), 7);
+    assert_eq!(rt; last.sum(), 7);
+    assert!(rt; Clock::zero(64).le(&last) && !last.le(&Clock::zero(64)));
+    assert_eq!(rt; last.join(&Clock::zero(64).with(0, 2)).sum(), 9);
+    assert_eq!(rt; last.meet(&Clock::zero(64).with(0, 2)), Clock::zero(64));
+}
+
+// Sum first, then member, then sequence number.
+#[test]
+fn orders_keys(rt: HostRuntime) {
+    let rows = [(2, 3, 9), (3, 0, 1), (3, 0, 2), (3, 1, 1), (4, 0, 1)];
+    for pair in rows.windows(2) {
+        let (lesser, greater) = (key_of(pair[0]), key_of(pair[1]));
+        assert!(rt; lesser < greater && !(greater < lesser));
+    }
 }

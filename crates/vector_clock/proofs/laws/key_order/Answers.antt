@@ -4,7 +4,6 @@ use Rattle.std.specs.Ordering.{nat_cmp, ordering_then}
 use Rattle.std.specs.declared.cmp.Ordering.{Ordering}
 use Rattle.std.specs.declared.cmp.Ordering.TheVariants.{Less, Equal, Greater}
 use Rattle.vector_clock.specs.Stamp.{is_less}
-use Rattle.vector_clock.specs.declared.stamp.Key.{Key}
 use Rattle.vector_clock.proofs.laws.key_order.Goals as goal
 
 -- the test of a lesser part and that of an equal one decide the comparison, and an equal one leaves it to the next part

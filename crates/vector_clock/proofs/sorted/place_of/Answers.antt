@@ -1,4 +1,4 @@
-use Rattle.std.proofs.Common.{◌≡◌, ◌+◌, ◌-◌, ◌/◌, ◌<◌, true, false, arith, ap, sym, ◌∙◌}
+use Rattle.std.proofs.Common.{◌+◌, ◌-◌, ◌/◌, ◌<◌, arith, ap, sym, ◌∙◌}
 use Rattle.vector_clock.specs.Stamp.{is_below}
 use Rattle.vector_clock.proofs.Ordered.{lower_half, upper_half}
 use Rattle.vector_clock.proofs.sorted.place_of.Goals as goal

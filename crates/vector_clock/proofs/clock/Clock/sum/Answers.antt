@@ -1,4 +1,4 @@
-use Rattle.std.proofs.Common.{◌∙◌, arith}
+use Rattle.std.proofs.Common.{◌∙◌}
 use Rattle.vector_clock.proofs.Clocks.{sum_first}
 use Rattle.vector_clock.proofs.clock.Clock.sum.Goals as goal
 
