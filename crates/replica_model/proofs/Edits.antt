@@ -19,7 +19,7 @@ use Rattle.crdt_laws.proofs.Members.{Contains-cases, Contains-front, Contains-mo
 use Rattle.crdt_laws.proofs.Place.{rising-place}
 use Rattle.replica_model.specs.Family.{IsSoundReplica, WaitsIn}
 use Rattle.replica_model.specs.Replica.{Replica, edited, members, next_stamp, version}
-use Rattle.replica_model.proofs.Names.{all_from_contains, any_from, has_name_from, named_in, same_id_is, same_id_from_ids}
+use Rattle.replica_model.proofs.Names.{all_from_contains, any_from, has_id_from, named_in, same_id_is, same_id_from_ids}
 use Rattle.replica_model.proofs.Pools.{each_from}
 use Rattle.replica_model.proofs.Versions.{count-with_other, count-with_own, length-version, more_covers, more_knows, n-version, version_has, version_is_clock, version_knows}
 
@@ -260,19 +260,19 @@ module _ {Op : Type 0} (zs : List (Entry Op)) (n : ℕ) (r : Replica Op) (may : 
       elim (Contains-append_cases (edited r op).delivered r.waiting found.0 found.1) [
         | inl d ↦ elim (in_edited op found.0 d) [
           | inl q ↦ unknown e (waiting_inside e c) (subst (λ (j : Id). covers e.stamp.clock j ≡ true) (sym (ap (λ (z : Entry Op). id_of z.stamp) q ∙ found.2)) cov)
-          | inr j ↦ both_ways (has_id old i) none (has_name_from old found.0 i (Contains-append_left r.delivered r.waiting found.0 j) found.2)
+          | inr j ↦ both_ways (has_id old i) none (has_id_from old found.0 i (Contains-append_left r.delivered r.waiting found.0 j) found.2)
         ]
-        | inr w ↦ both_ways (has_id old i) none (has_name_from old found.0 i (Contains-append_right r.delivered r.waiting found.0 w) found.2)
+        | inr w ↦ both_ways (has_id old i) none (has_id_from old found.0 i (Contains-append_right r.delivered r.waiting found.0 w) found.2)
       ])
 
   edited_waits : (op : Op) (e : Entry Op) → Contains r.waiting e → WaitsIn ((edited r op).delivered ++ r.waiting) e
   edited_waits op e c =
       let w = All-contains (WaitsIn (r.delivered ++ r.waiting)) r.waiting e may.sound.waits c in
       record {
-        name = w.name;
+        id = w.id;
         counted = w.counted;
         covered = w.covered;
-        absent = still_absent op e w.name c w.covered w.absent;
+        absent = still_absent op e w.id c w.covered w.absent;
       }
 
   edited_apart : (op : Op) (e : Entry Op) → Contains (edited r op).delivered e → Contains r.waiting e → ⊥

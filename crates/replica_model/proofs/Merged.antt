@@ -14,7 +14,7 @@ use Rattle.crdt_laws.proofs.Filters.{rising-filter}
 use Rattle.crdt_laws.proofs.Members.{filter_inside}
 use Rattle.replica_model.specs.Family.{IsSoundReplica, MayMerge, WaitsIn}
 use Rattle.replica_model.specs.Replica.{Replica, Batch, heard, heard_header, heard_op, merged, pooled, ready, row, unready, version, members}
-use Rattle.replica_model.proofs.Names.{all_from_contains, has_name_from, named_in, Misses}
+use Rattle.replica_model.proofs.Names.{all_from_contains, has_id_from, named_in, Misses}
 use Rattle.replica_model.proofs.Pools.{in_pooled, pooled_has, rising-pooled}
 use Rattle.replica_model.proofs.Ready.{closed_ready, ready_apart, ready_closed, ready_or_not, unready_misses}
 
@@ -114,12 +114,12 @@ module _ {Op : Type 0} (r : Replica Op) (b : Batch Op) (may : MayMerge r b) wher
       let all = (merged r b).delivered ++ (merged r b).waiting in
       let miss : Misses (pooled r b) e.stamp.clock = unready_misses (pooled r b) e (subst (λ (l : List (Entry Op)). Contains l e) (waiting-merged r b) c) in
       record {
-        name = miss.name;
+        id = miss.id;
         counted = miss.counted;
         covered = miss.covered;
-        absent = false_from_ne_true (has_id all miss.name) (λ t.
-            let found = named_in all miss.name t in
-            both_ways (has_id (pooled r b) miss.name) miss.absent (has_name_from (pooled r b) found.0 miss.name (merged_pooled found.0 found.1) found.2));
+        absent = false_from_ne_true (has_id all miss.id) (λ t.
+            let found = named_in all miss.id t in
+            both_ways (has_id (pooled r b) miss.id) miss.absent (has_id_from (pooled r b) found.0 miss.id (merged_pooled found.0 found.1) found.2));
       }
 
   pub merged_sound : (n : ℕ) → IsSoundReplica n r → IsSoundReplica n (merged r b)

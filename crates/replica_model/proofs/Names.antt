@@ -41,8 +41,8 @@ pub same_id_from_ids : (p q : Stamp) → id_of p ≡ id_of q → same_id p q ≡
 unfolding same_id
 same_id_from_ids p q h = is_id_from p (id_of q) h
 
-pub has_name_from : {Op : Type 0} (xs : List (Entry Op)) (e : Entry Op) (i : Id) → Contains xs e → id_of e.stamp ≡ i → has_id xs i ≡ true
-has_name_from {Op} xs e i c h =
+pub has_id_from : {Op : Type 0} (xs : List (Entry Op)) (e : Entry Op) (i : Id) → Contains xs e → id_of e.stamp ≡ i → has_id xs i ≡ true
+has_id_from {Op} xs e i c h =
     list_any-from_Any (λ (e : Entry Op). eqb e.stamp.member i.member && eqb (count e.stamp.clock e.stamp.member) i.seq) xs
     (any_from _ xs e c (is_id_from e.stamp i h))
 
@@ -79,37 +79,37 @@ out_of p a (suc n) h =
 
 -- all that a clock covers
 
-pub all_names : {Op : Type 0} (xs : List (Entry Op)) (k : Clock) → has_all_of xs k ≡ true
+pub all_ids : {Op : Type 0} (xs : List (Entry Op)) (k : Clock) → has_all_of xs k ≡ true
     → (i : Id) → i.member < max_members → 1 ≤ i.seq → covers k i ≡ true → has_id xs i ≡ true
 unfolding has_all_of
-all_names xs k h i within counted c =
+all_ids xs k h i within counted c =
     let row = all_in (λ m. list_all (λ s. has_id xs (record { member = m; seq = s })) (range_with_len 1 (count k m))) 0 max_members h i.member (omega arith) (omega arith) in
     let at_most : i.seq ≤ count k i.member = leb-true i.seq (count k i.member) c in
     all_in (λ s. has_id xs (record { member = i.member; seq = s })) 1 (count k i.member) row i.seq counted (omega arith)
 
-pub from_all_names : {Op : Type 0} (xs : List (Entry Op)) (k : Clock)
+pub from_all_ids : {Op : Type 0} (xs : List (Entry Op)) (k : Clock)
     → ((i : Id) → i.member < max_members → 1 ≤ i.seq → covers k i ≡ true → has_id xs i ≡ true) → has_all_of xs k ≡ true
 unfolding has_all_of
-from_all_names xs k h =
+from_all_ids xs k h =
     in_all (λ m. list_all (λ s. has_id xs (record { member = m; seq = s })) (range_with_len 1 (count k m))) 0 max_members
     (λ m l u. in_all (λ s. has_id xs (record { member = m; seq = s })) 1 (count k m)
     (λ s v w. h (record { member = m; seq = s }) (omega arith) v (le-leb s (count k m) (omega arith))))
 
 -- an id that is missing
 pub record Misses {Op : Type 0} (xs : List (Entry Op)) (k : Clock) : Type 0 where
-  pub name : Id
-  pub member : name.member < max_members
-  pub counted : 1 ≤ name.seq
-  pub covered : covers k name ≡ true
-  pub absent : has_id xs name ≡ false
+  pub id : Id
+  pub member : id.member < max_members
+  pub counted : 1 ≤ id.seq
+  pub covered : covers k id ≡ true
+  pub absent : has_id xs id ≡ false
 
-pub missing_name : {Op : Type 0} (xs : List (Entry Op)) (k : Clock) → has_all_of xs k ≡ false → Misses xs k
+pub missing_id : {Op : Type 0} (xs : List (Entry Op)) (k : Clock) → has_all_of xs k ≡ false → Misses xs k
 unfolding has_all_of
-missing_name xs k h =
+missing_id xs k h =
     let row = out_of (λ m. list_all (λ s. has_id xs (record { member = m; seq = s })) (range_with_len 1 (count k m))) 0 max_members h in
     let one = out_of (λ s. has_id xs (record { member = row.0; seq = s })) 1 (count k row.0) row.3 in
     record {
-      name = record { member = row.0; seq = one.0 };
+      id = record { member = row.0; seq = one.0 };
       member = omega (arith, row.2);
       counted = one.1;
       covered = le-leb one.0 (count k row.0) (omega (arith, one.2));

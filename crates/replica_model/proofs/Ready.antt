@@ -12,7 +12,7 @@ use Rattle.crdt_laws.specs.declared.small.Entry.{Entry}
 use Rattle.crdt_laws.specs.Sets.{IsHonest, IsClosed, has_all_of}
 use Rattle.crdt_laws.proofs.Members.{filter_has, filter_inside, filter_passed}
 use Rattle.replica_model.specs.Replica.{ready, unready}
-use Rattle.replica_model.proofs.Names.{any_from, has_name_from, named_in, all_names, from_all_names, missing_name, Misses}
+use Rattle.replica_model.proofs.Names.{any_from, has_id_from, named_in, all_ids, from_all_ids, missing_id, Misses}
 
 -- clocks
 
@@ -59,11 +59,11 @@ ready_closed {Op} xs stamped honest = record { each = each }
         let inside = filter_inside p xs a c in
         let all : has_all_of xs a.stamp.clock ≡ true = filter_passed p xs a c in
         let clock = (stamped a inside).clock in
-        let found = named_in xs i (all_names xs a.stamp.clock all i (member_below_most a.stamp.clock i clock counted covered) counted covered) in
+        let found = named_in xs i (all_ids xs a.stamp.clock all i (member_below_most a.stamp.clock i clock counted covered) counted covered) in
         let b = found.0 in
         let known = covered_knows xs honest a b inside found.1 (subst (λ j. covers a.stamp.clock j ≡ true) (sym found.2) covered) in
-        let whole : has_all_of xs b.stamp.clock ≡ true = from_all_names xs b.stamp.clock
-        (λ j w n d. all_names xs a.stamp.clock all j w n (covers_on b.stamp.clock a.stamp.clock j known d)) in
+        let whole : has_all_of xs b.stamp.clock ≡ true = from_all_ids xs b.stamp.clock
+        (λ j w n d. all_ids xs a.stamp.clock all j w n (covers_on b.stamp.clock a.stamp.clock j known d)) in
         any_from (λ (e : Entry Op). id_of e.stamp ≡ i) (ready xs) b (filter_has p xs b found.1 whole) found.2
 
 -- all of a causally closed part is ready
@@ -71,14 +71,14 @@ pub closed_ready : {Op : Type 0} (xs ys : List (Entry Op)) → ((e : Entry Op) �
     → ((e : Entry Op) → Contains ys e → Contains xs e) → (e : Entry Op) → Contains ys e → Contains (ready xs) e
 closed_ready {Op} xs ys stamped closed part e c =
     filter_has (λ (e : Entry Op). has_all_of xs e.stamp.clock) xs e (part e c)
-    (from_all_names xs e.stamp.clock (λ i w counted covered.
+    (from_all_ids xs e.stamp.clock (λ i w counted covered.
     let found = closed.each e i c counted covered in
-    has_name_from xs found.1 i (part found.1 (found.0, found.2, found.3)) found.4))
+    has_id_from xs found.1 i (part found.1 (found.0, found.2, found.3)) found.4))
 
 -- an operation that is not ready misses an id
 pub unready_misses : {Op : Type 0} (xs : List (Entry Op)) (e : Entry Op) → Contains (unready xs) e → Misses xs e.stamp.clock
 unready_misses {Op} xs e c =
-    missing_name xs e.stamp.clock (not-true (has_all_of xs e.stamp.clock) (filter_passed (λ (e : Entry Op). not (has_all_of xs e.stamp.clock)) xs e c))
+    missing_id xs e.stamp.clock (not-true (has_all_of xs e.stamp.clock) (filter_passed (λ (e : Entry Op). not (has_all_of xs e.stamp.clock)) xs e c))
 
 pub ready_apart : {Op : Type 0} (xs : List (Entry Op)) (e : Entry Op) → Contains (ready xs) e → Contains (unready xs) e → ⊥
 ready_apart {Op} xs e c d =

@@ -33,10 +33,10 @@ operations ts = flat_map operations_of ts
 
 -- the clock of e covers an id that no operation of the set has
 pub record WaitsIn {Op : Type 0} (xs : List (Entry Op)) (e : Entry Op) : Type 0 where
-  pub name : Id
-  pub counted : 1 ≤ name.seq
-  pub covered : IsTrue (covers e.stamp.clock name)
-  pub absent : has_id xs name ≡ false
+  pub id : Id
+  pub counted : 1 ≤ id.seq
+  pub covered : IsTrue (covers e.stamp.clock id)
+  pub absent : has_id xs id ≡ false
 
 -- a replica of a document with n members: what is delivered is causally closed, what waits is not delivered and has cause to
 -- wait

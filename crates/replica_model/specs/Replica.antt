@@ -34,7 +34,7 @@ abbrev pub row : List Clock → ℕ → Clock
 row rows j = slice_index_or rows j (zero_clock 1)
 
 -- What a set of operations knows of, in a document with n members: the join of its clocks.
--- For a causally closed honest set this is, for each member, the number of its operations.
+-- For a causally closed set, each id once, this is the number of operations of each member.
 abbrev pub version : {Op : Type 0} → ℕ → List (Entry Op) → Clock
 version n xs = fold (λ k e. join k e.stamp.clock) (zero_clock n) xs
 

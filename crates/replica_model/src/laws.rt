@@ -3,7 +3,8 @@ ghost use Rattle.std.specs.Prelude.{◌≡◌, ◌≢◌, ℕ, ◌<◌, ◌≤�
 ghost use Rattle.std.specs.List.{All, Contains};
 ghost use Rattle.vector_clock.specs.Clock.{IsAtMost, count, max_members};
 ghost use Rattle.crdt_laws.specs.declared.small.Entry.{Entry};
-ghost use Rattle.crdt_laws.specs.Sets.{IsClosed, IsHonest};
+ghost use Rattle.crdt_laws.specs.Sets.{AreApart, IsClosed, IsHonest};
+ghost use Rattle.crdt_laws.specs.Tower.{IsStampOf};
 ghost use Rattle.replica_model.specs.Replica.{Replica, Batch, edited, exported, merged, new_replica, next_stamp, version};
 ghost use Rattle.replica_model.specs.Family.{Thing, replica, batch, replicas, IsHonestFamily, MayMerge};
 
@@ -59,6 +60,13 @@ pub fn family_sends<T: Tower>(tower: &T)
     ensures copied { (n : ℕ) (xs ys : List (Thing T.Op)) (b : Batch T.Op) → IsHonestFamily (T.meaning tower.now) n (xs ++ ys)
         → Contains (xs ++ ys) (batch b) → IsHonestFamily (T.meaning tower.now) n (xs ++ batch b ∷ ys) }
     ensures lost { (n : ℕ) (xs ys : List (Thing T.Op)) (b : Batch T.Op) → IsHonestFamily (T.meaning tower.now) n (xs ++ batch b ∷ ys) → IsHonestFamily (T.meaning tower.now) n (xs ++ ys) }
+{}
+
+/// The version of a causally closed set is, for each member, the number of its operations in the set. The stamps are of a document
+/// with `n` members, and no id stands twice.
+pub fn version_counts<Op>()
+    ensures { (n : ℕ) (xs : List (Entry Op)) → All (λ e. IsStampOf n e.stamp) xs → AreApart xs → IsClosed xs
+        → (m : ℕ) → count (version n xs) m ≡ count_by (λ e. e.stamp.member == m) xs }
 {}
 
 /// In an honest family the version of a replica counts its operations of each member, and tells which it has: one
