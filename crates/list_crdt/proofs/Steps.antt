@@ -38,12 +38,6 @@ pub steps_some : (P : Step → Type 0) (p : List Step) → AreSteps P p → 0 < 
 steps_some P [] h = absurd h
 steps_some P (s ∷ p) h = omega arith
 
--- the last step has the id of the maker
-pub maker_names : (n : ℕ) (p : List Step) → AreSteps (NamesOperation n) p → NamesOperation n (last_step p)
-maker_names n [] h = absurd h
-maker_names n (s ∷ []) h = h
-maker_names n (s ∷ t ∷ p) h = maker_names n (t ∷ p) h.1
-
 pub last_at : (p : List Step) (d : Step) → 0 < length p → get_or p (length p - 1) d ≡ last_step p
 last_at [] d h = absurd (omega (arith, h))
 last_at (s ∷ []) d h = refl

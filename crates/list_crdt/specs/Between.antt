@@ -57,7 +57,7 @@ pub record AreInOrder (p q : Option (List Step)) : Type 0 where
 abbrev pub position_between : ℕ → ℕ → Option (List Step) → Option (List Step) → List Step
 position_between member seq p q = next_position member seq (steps_of p) (steps_of q)
 
--- an operation of a document with n members may have this member and this sequence number
+-- an operation of a document with n members may have this id
 pub record MayName (n member seq : ℕ) : Type 0 where
   pub below : member < n
   pub counted : 1 ≤ seq

@@ -12,6 +12,7 @@ use Rattle.vector_clock.specs.Clock.{IsAtMost, covers}
 use Rattle.vector_clock.specs.Stamp.{id_of, are_concurrent, is_before}
 use Rattle.vector_clock.proofs.Keys.{concurrent_other, concurrent_sym, other_ids}
 use Rattle.crdt_laws.specs.Tower.{IsLawful, IsIssued, IsWithin, MaySwap}
+use Rattle.crdt_laws.proofs.Plain.{flat_lawful}
 use Rattle.list_crdt.specs.declared.position.Step.{Step}
 use Rattle.list_crdt.specs.declared.text.Cell.{Cell}
 use Rattle.list_crdt.specs.declared.text.TextOp.{TextOp}
@@ -83,34 +84,19 @@ no_text : (n : ℕ) → IsText n []
 no_text n = record { rising = λ i j d l m. absurd (omega (arith, m)); cells = All-nil (IsCellOf n) }
 
 pub text_lawful : IsLawful text_meaning
-text_lawful = record {
+text_lawful = flat_lawful text_meaning (record {
+  settle = λ s k. refl;
+  holds = λ s p h. h;
+  top = omega arith;
+  level = λ x. refl;
+  act = λ y x. refl;
   valid_within = valid_within;
   valid_well_formed = well_formed;
-  level_low = λ x _. omega arith;
-  level_top = λ x _. omega arith;
-  level-act = λ y x _ _. refl;
-  act_below = λ y x _ _ _. refl;
-  well_formed-act = λ y x _ h. h;
-  valid-act = λ p y x _ _ h. h;
-  commute = λ n s p q x y w h k _. commute n s p q x y w h k;
-  exchange = λ n s p q x y _ _ _ h. absurd (omega (arith, h));
-  act-act = λ y v x _ _ _ _. refl;
-  distribute = λ z y x _ _ _ h _. absurd (omega (arith, h));
-  settle-apply = λ n s k p x _ _ _ _ _. refl;
-  settle-settle = λ n s k l _ _ _ _. refl;
-  settle-init = λ k. refl;
-  show-settle = λ n s k _. refl;
+  commute = commute;
   good-init = no_text;
-  good-apply = λ n s p x t h _. edited_text n s p x t h.stamp.members h.valid;
-  good-settle = λ n s k h. h;
+  good-apply = λ n s p x t h. edited_text n s p x t h.stamp.members h.valid;
   good_at_good = λ d s h. h.text;
   good_at-init = λ d. record { text = no_text d.n; known = All-nil (λ (c : Cell). IsTrue (covers d (maker c.at))) };
   good_at_later = λ d e s same h t. record { text = subst (λ n. IsText n s) same t.text; known = All-weaker _ (λ (c : Cell). IsTrue (covers e (maker c.at))) (λ c k. covers_later d e (maker c.at) h k) s t.known };
-  good_at-apply = λ d s p x t h _ _ k. record { text = edited_text d.n s p x t.text h.stamp.members h.valid; known = edited_known d s p x t h.valid k };
-  good_at-settle = λ d s k h. h;
-  holds-init = λ p h. h;
-  holds-apply = λ s p x q h. inr h;
-  holds-settle = λ s k q h. h;
-  plain_settle = λ s k _. refl;
-  plain_holds = λ s p _ h. h;
-}
+  good_at-apply = λ d s p x t h _ k. record { text = edited_text d.n s p x t.text h.stamp.members h.valid; known = edited_known d s p x t h.valid k };
+})

@@ -1,7 +1,8 @@
 ghost use Rattle.std.specs.Prelude.{◌≡◌, ◌<◌, ◌≤◌, IfOk};
 ghost use Rattle.std.specs.Option.{option_copied};
+ghost use Rattle.vector_clock.specs.Clock.{max_seq};
 ghost use Rattle.vector_clock.specs.Stamp.{IsStamp};
-ghost use Rattle.crdt_laws.specs.Tower.{IsWithin, max_seq};
+ghost use Rattle.crdt_laws.specs.Tower.{IsWithin};
 ghost use Rattle.list_crdt.specs.Text.{IsText, place_before};
 
 use super::*;
@@ -9,7 +10,7 @@ use crdt_laws::{List, Tower};
 use std::alloc::{AllocError, Global};
 use std::process::Abort;
 use std::test::Fail;
-use vector_clock::{Clock, Stamp};
+use vector_clock::{Clock, MAX_MEMBERS, MAX_SEQ, Stamp};
 
 // The stamp of an operation of one of two members, who knows no operation of the other.
 fn stamp_of(member: u8, seq: u32) -> Stamp
@@ -52,6 +53,9 @@ fn position_of(alloc: Global, steps: &[Step]) -> Result<Position, AllocError> {
     })
 }
 
+// As many members as a document may have.
+const MOST: u8 = MAX_MEMBERS as u8;
+
 // Refused as no position is.
 const OUT_OF_ORDER: ListError = ListError::PositionFull { steps: 0 };
 
@@ -65,9 +69,9 @@ fn next(
 ) -> Result<Position, ListError> {
     match (p, q) {
         (None, None) => between(alloc, None, None, member, seq),
-        (Some(p), None) if p.is_of(16) => between(alloc, Some(p), None, member, seq),
-        (None, Some(q)) if q.is_of(16) => between(alloc, None, Some(q), member, seq),
-        (Some(p), Some(q)) if p.is_of(16) && q.is_of(16) && p.cmp(q).is_lt() => {
+        (Some(p), None) if p.is_of(MOST) => between(alloc, Some(p), None, member, seq),
+        (None, Some(q)) if q.is_of(MOST) => between(alloc, None, Some(q), member, seq),
+        (Some(p), Some(q)) if p.is_of(MOST) && q.is_of(MOST) && p.cmp(q).is_lt() => {
             between(alloc, Some(p), Some(q), member, seq)
         }
         _ => Err(OUT_OF_ORDER),
@@ -225,7 +229,7 @@ fn shown(alloc: Global, state: &TextState) -> Result<String, Fail>
 fn typed(alloc: Global, places: &[u32]) -> Result<TextState, Fail>
     ensures { IfOk result (IsText 2) }
 {
-    if places.len() > 1_000_000 {
+    if places.len() > MAX_SEQ as usize {
         return Err(Fail::from("too many characters"));
     }
     let mut state = Text.init(alloc)?;
