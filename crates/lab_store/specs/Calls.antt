@@ -1,5 +1,5 @@
 -- Which calls of a store, a source or a sink in memory fail. Calls are numbered from 0, and counters stay at their last value.
-use Rattle.std.specs.Prelude.{ℕ, ◌-◌, ◌^◌, List, [], ◌∷◌, Bool, ◌==◌, ◌&&◌, nat_lt, Option, None, Some, if◌then◌else◌}
+use Rattle.std.specs.Prelude.{ℕ, ◌-◌, ◌^◌, List, [], ◌∷◌, Bool, true, false, ◌==◌, ◌&&◌, nat_lt, Option, None, Some, if◌then◌else◌}
 use Rattle.std.specs.List.{list_any}
 use Rattle.lab_store.specs.declared.mem_sink.Keep.{Keep}
 use Rattle.lab_store.specs.declared.mem_store.Fail.{Fail}
@@ -7,6 +7,11 @@ use Rattle.lab_store.specs.declared.mem_store.Fail.{Fail}
 -- whether a call may still fail, after so many calls and faults: a call that finds a counter at its last value does not
 abbrev pub may_fail : ℕ → ℕ → Bool
 may_fail calls faults = nat_lt calls (2 ^ 32 - 1) && nat_lt faults (2 ^ 64 - 1)
+
+-- whether no call is told to fail
+abbrev pub is_unfailing : {X : Type 0} → List X → Bool
+is_unfailing [] = true
+is_unfailing (fail ∷ fails) = false
 
 -- whether the call is one of these
 abbrev pub is_named : List ℕ → ℕ → Bool

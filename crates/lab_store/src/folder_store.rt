@@ -1,4 +1,4 @@
-ghost use Rattle.std.specs.Prelude.{◌≡◌, ◌≢◌, None};
+ghost use Rattle.std.specs.Prelude.{◌≡◌, ◌≢◌, None, false};
 ghost use Rattle.std.specs.IoError.{error_kind};
 ghost use Rattle.lab_store.specs.Store.{OnLong};
 
@@ -77,6 +77,8 @@ impl<R: Files> Store for FolderStore<R> {
     ghost fetch_faults = { λ s. s.fetch_faults };
 
     ghost replace_faults = { λ s. s.replace_faults };
+
+    ghost unfailing = { λ _. false };
 
     fn fetch(
         &mut self,

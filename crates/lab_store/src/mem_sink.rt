@@ -1,5 +1,5 @@
 ghost use Rattle.std.specs.Prelude.{◌≡◌, ◌+◌, ◌++◌, ◌-◌, ◌^◌, ◌≤◌, IfSome, IsOk, [], OnErr, OnOk, Some, is_err, is_ok, is_some, length, min, take, true, vec_capacity, vec_len};
-ghost use Rattle.lab_store.specs.Calls.{kept_now, kept_of, may_fail};
+ghost use Rattle.lab_store.specs.Calls.{is_unfailing, kept_now, kept_of, may_fail};
 
 use crate::stream::{Failed, Sink};
 use crdt_laws::{List, NoMemory};
@@ -83,6 +83,8 @@ impl Sink for MemSink {
     ghost told = { λ s. Some s.bytes.items };
 
     ghost faults = { λ s. s.faults };
+
+    ghost unfailing = { λ s. is_unfailing s.failing };
 
     ghost spare = { λ s. vec_capacity s.bytes - vec_len s.bytes };
 

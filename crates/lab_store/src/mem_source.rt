@@ -1,5 +1,5 @@
 ghost use Rattle.std.specs.Prelude.{◌≡◌, ◌+◌, ◌-◌, ◌^◌, ◌≤◌, ◌&&◌, IfOk, IsOk, [], OnErr, OnOk, Some, drop, is_err, length, min};
-ghost use Rattle.lab_store.specs.Calls.{is_named, may_fail};
+ghost use Rattle.lab_store.specs.Calls.{is_named, is_unfailing, may_fail};
 ghost use Rattle.lab_store.specs.Stream.{Takes};
 
 use crate::stream::{Failed, Source};
@@ -62,6 +62,8 @@ impl Source for MemSource {
     ghost left = { λ s. Some (drop s.at s.bytes) };
 
     ghost faults = { λ s. s.faults };
+
+    ghost unfailing = { λ s. is_unfailing s.failing };
 
     fn take(&mut self, room: &mut [u8]) -> Result<u32, Failed>
         ensures bound { IfOk result (λ n. n ≤ length room.old) }

@@ -1,7 +1,7 @@
 ghost use Rattle.std.specs.Prelude.{◌≡◌, ◌+◌, ◌-◌, ◌^◌, ◌≤◌, ◌<◌, [], Err, IfErr, IfOk, IfSome, IsErr, IsSome, IsTrue, OnErr, OnOk, Some, if◌then◌else◌, length, min};
 ghost use Rattle.std.specs.Option.{option_map};
 ghost use Rattle.lab_store.specs.Store.{IsLonger, MayReplace, OnFailed, OnLong, OnNoMemory, file_at, names_differ, with_file};
-ghost use Rattle.lab_store.specs.Calls.{late_now, late_of};
+ghost use Rattle.lab_store.specs.Calls.{is_unfailing, late_now, late_of};
 ghost use Rattle.lab_store.specs.Files.{pairs, place_of};
 
 use crate::store::{Store, StoreError};
@@ -193,12 +193,15 @@ impl Store for MemStore {
 
     ghost replace_faults = { λ s. s.replace_faults };
 
+    ghost unfailing = { λ s. is_unfailing s.failing };
+
     fn fetch(&mut self, alloc: Global, name: &str, most: u64) -> Result<Option<Vec<u8>>, StoreError>
         ensures files { pairs self.new.files.items.items ≡ pairs self.old.files.items.items }
         ensures found { IfOk result (λ o. option_map (λ v. v.items) o ≡ file_at (pairs self.old.files.items.items) name.now) }
         ensures most { IfOk result (λ o. IfSome o (λ v. length v.items ≤ most)) }
         ensures long { IfErr result (λ e. OnLong e (IsLonger (Some (pairs self.old.files.items.items)) name.now most)) }
         ensures fault { IfErr result (λ e. OnFailed e (self.new.fetch_faults ≡ self.old.fetch_faults + 1)) }
+        ensures no_fault { OnOk result (self.new.fetch_faults ≡ self.old.fetch_faults) }
         ensures faults { self.old.fetch_faults ≤ self.new.fetch_faults }
         ensures other { self.new.replace_faults ≡ self.old.replace_faults }
         ensures fails { IfSome (late_now self.old.failing self.old.calls self.old.fetch_faults) (λ _. result ≡ Err StoreError.Failed) }
@@ -225,6 +228,7 @@ impl Store for MemStore {
         ensures fault { IfErr result (λ e. OnFailed e (self.new.replace_faults ≡ self.old.replace_faults + 1)) }
         ensures never_long { IfErr result (λ e. OnLong e ⊥) }
         ensures no_memory { IfErr result (λ e. OnNoMemory e (pairs self.new.files.items.items ≡ pairs self.old.files.items.items)) }
+        ensures no_fault { OnOk result (self.new.replace_faults ≡ self.old.replace_faults) }
         ensures faults { self.old.replace_faults ≤ self.new.replace_faults }
         ensures other { self.new.fetch_faults ≡ self.old.fetch_faults }
         ensures fails { IfSome (late_now self.old.failing self.old.calls self.old.replace_faults) (λ _. IsErr result) }

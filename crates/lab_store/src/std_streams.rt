@@ -1,4 +1,4 @@
-ghost use Rattle.std.specs.Prelude.{◌≡◌, ◌-◌, ◌^◌, ◌<◌, ◌≤◌, None, IfOk, IsOk, OnErr, OnOk, length, take};
+ghost use Rattle.std.specs.Prelude.{◌≡◌, ◌-◌, ◌^◌, ◌<◌, ◌≤◌, None, false, IfOk, IsOk, OnErr, OnOk, length, take};
 ghost use Rattle.std.specs.Io.KnownBytes.{Appends, Consumes, IsAtEnd, Keeps};
 ghost use Rattle.lab_store.specs.Stream.{Rose};
 
@@ -29,6 +29,8 @@ impl<R: Read> Source for StdSource<R> {
     ghost left = { λ _. None };
 
     ghost faults = { λ s. s.faults };
+
+    ghost unfailing = { λ _. false };
 
     fn take(&mut self, room: &mut [u8]) -> Result<u32, Failed>
         ensures bound { IfOk result (λ n. n ≤ length room.old) }
@@ -71,6 +73,8 @@ impl<W: Write> Sink for StdSink<W> {
     ghost told = { λ _. None };
 
     ghost faults = { λ s. s.faults };
+
+    ghost unfailing = { λ _. false };
 
     ghost spare = { λ _. 2 ^ 64 - 1 };
 
