@@ -1,49 +1,68 @@
--- Numbers modulo 2^64, with additions, and multiplications that act on them.
-use Rattle.std.specs.Prelude.{ℕ, ◌+◌, ◌*◌, ◌%◌, ◌^◌, ◌<◌, true}
+-- Numbers modulo some number, with additions, and multiplications that act on them.
+use Rattle.std.specs.Prelude.{ℕ, ◌+◌, ◌*◌, ◌%◌, ◌^◌, ◌<◌, ◌==◌, if◌then◌else◌, true}
 use Rattle.std.specs.Int.{cast_signed, w64}
-use Rattle.serde_json.specs.Data.{number}
+use Rattle.serde_json.specs.Data.{Num, number, unsigned}
 use Rattle.serde_json.specs.Find.{of_integer}
 use Rattle.vector_clock.specs.declared.stamp.Stamp.{Stamp}
 use Rattle.crdt_laws.specs.Tower.{Meaning, IsWithin}
 use Rattle.crdt_laws.specs.Actor.{Action}
+use Rattle.semidirect_product.specs.declared.stack.StackOp.{StackOp}
+use Rattle.semidirect_product.specs.Stack.{stack_meaning}
 
--- the sum and the product, as 64 bits hold them
-abbrev pub wrapped_sum : ℕ → ℕ → ℕ
-wrapped_sum x y = (x + y) % 2 ^ 64
+-- what residues are below: 0 stands for 2 ^ 64
+abbrev pub modulus_of : ℕ → ℕ
+modulus_of m = if m == 0 then 2 ^ 64 else m
 
-abbrev pub wrapped_product : ℕ → ℕ → ℕ
-wrapped_product x y = (x * y) % 2 ^ 64
+-- the residue of the sum
+abbrev pub sum_mod : ℕ → ℕ → ℕ → ℕ
+sum_mod m x y = (x + y) % modulus_of m
 
--- the operand is a number of 64 bits, and the stamp is within the limits
-pub record IsWordAt (p : Stamp) (x : ℕ) : Type 0 where
+-- and of the product
+abbrev pub product_mod : ℕ → ℕ → ℕ → ℕ
+product_mod m x y = (x * y) % modulus_of m
+
+-- the operand is a residue, and the stamp is within the limits
+pub record IsResidueAt (m : ℕ) (p : Stamp) (x : ℕ) : Type 0 where
   pub within : IsWithin p
-  pub word : x < 2 ^ 64
+  pub residue : x < modulus_of m
 
--- A number, at first 0, to which numbers are added. It is shown as a signed number of 64 bits.
-abbrev pub add_meaning : Meaning ℕ ℕ
-add_meaning = record {
+-- a residue modulo 2 ^ 64 is shown as the signed number with its bits, and one of another modulus as it is
+abbrev pub shown_mod : ℕ → ℕ → Num
+shown_mod m s = if m == 0 then of_integer (cast_signed w64 s) else unsigned s
+
+-- a number, at first 0, to which residues are added
+abbrev pub add_meaning : ℕ → Meaning ℕ ℕ
+add_meaning m = record {
   top = 1;
   level = λ _. 1;
-  well_formed = λ x. x < 2 ^ 64;
-  valid = IsWordAt;
+  well_formed = λ x. x < modulus_of m;
+  valid = IsResidueAt m;
   init = 0;
-  apply = λ s _ x. wrapped_sum s x;
+  apply = λ s _ x. sum_mod m s x;
   act = λ _ x. x;
   settle = λ s _. s;
-  show = λ s. number (of_integer (cast_signed w64 s));
-  good = λ _ s. s < 2 ^ 64;
-  good_at = λ _ s. s < 2 ^ 64;
+  show = λ s. number (shown_mod m s);
+  good = λ _ s. s < modulus_of m;
+  good_at = λ _ s. s < modulus_of m;
   holds = λ _ _. ⊥;
   sparing = true;
   plain = true;
 }
 
 -- a multiplication multiplies the number, and what is added meanwhile
-abbrev pub mul_action : Action ℕ ℕ ℕ
-mul_action = record {
-  well_formed = λ x. x < 2 ^ 64;
-  valid = IsWordAt;
-  apply = λ s _ y. wrapped_product s y;
-  act = λ y x. wrapped_product x y;
+abbrev pub mul_action : ℕ → Action ℕ ℕ ℕ
+mul_action m = record {
+  well_formed = λ x. x < modulus_of m;
+  valid = IsResidueAt m;
+  apply = λ s _ y. product_mod m s y;
+  act = λ y x. product_mod m x y;
   sparing = true;
 }
+
+-- an addition or a multiplication
+abbrev pub NumberOp : Type 0
+NumberOp = StackOp ℕ ℕ
+
+-- a number that is added to and multiplied
+abbrev pub number_meaning : ℕ → Meaning ℕ NumberOp
+number_meaning m = stack_meaning (add_meaning m) (mul_action m)
