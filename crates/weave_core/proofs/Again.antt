@@ -2,17 +2,13 @@
 use Rattle.std.proofs.Common.{Bool, ℕ, ◌≡◌, true, false, List, [], ◌∷◌, cond, sym, map, subst}
 use Rattle.std.specs.List.{AllByRecursion}
 use Rattle.vector_clock.specs.declared.stamp.Stamp.{Stamp}
-use Rattle.weave_model.proofs.Forms
 use Rattle.crdt_laws.specs.declared.small.Entry.{Entry}
 use Rattle.weave_model.specs.Deliver.{Weave}
 use Rattle.vector_clock.specs.Stamp.{same_id, is_below, id_of}
 use Rattle.crdt_laws.specs.Tower.{Meaning, IsLawful, IsIssued, Lacks}
 use Rattle.crdt_laws.specs.Present.{acted, present}
-use Rattle.crdt_laws.specs.Sets.{place, IsRising}
+use Rattle.crdt_laws.specs.Sets.{place, IsRising, is_beyond}
 use Rattle.weave_model.specs.Deliver.{deliver, woven_with, is_high}
-use Rattle.weave_model.proofs.Filters.{all-map}
-use Rattle.weave_model.proofs.Place.{rising-place}
-use Rattle.weave_model.proofs.Forms.{present-stamp}
 use Rattle.weave_model.proofs.Acts
 use Rattle.std.specs.List.{All, filter}
 use Rattle.std.proofs.Common.{refl, ◌∙◌, ◌≤◌, ◌<◌, ap, ap₂, arith}
@@ -22,9 +18,13 @@ use Rattle.std.proofs.lemmas.List.Elements.{recursion_from_All, All-from_recursi
 use Rattle.vector_clock.specs.declared.clock.Clock.{Clock}
 use Rattle.vector_clock.specs.Stamp.{IsStamp}
 use Rattle.crdt_laws.specs.Entry.{entry}
-use Rattle.weave_model.proofs.Filters.{all-filter, all-place}
 use Rattle.weave_model.proofs.Swap.{pair}
-use Rattle.weave_model.specs.Deliver.{IsWell, is_outside, trim}
+use Rattle.weave_model.specs.Deliver.{IsWell, trim}
+use Rattle.crdt_laws.proofs.Acts.{acted-issued}
+use Rattle.crdt_laws.proofs.Filters.{all-map, all-place, rising-filter}
+use Rattle.vector_clock.proofs.Ordered.{all-filter}
+use Rattle.crdt_laws.proofs.Forms.{present-stamp, present-issued}
+use Rattle.crdt_laws.proofs.Place.{rising-place}
 
 pub rising-map : {State Op : Type 0} (t : Meaning State Op) (y : Entry Op) (c : List (Entry Op)) → IsRising c → IsRising (map (acted t y) c)
 rising-map t y [] r = tt
@@ -37,14 +37,6 @@ form_rising {Op = Op} t w x r n =
     elim (is_high t x) as (λ b. IsRising (cond b (place x m) m)) [
       | true ↦ rising-place x m (all-map (λ (e : Entry Op). same_id x.stamp e.stamp ≡ false) (λ (e : Entry Op). same_id x.stamp e.stamp ≡ false) (acted t x) (λ e q. q) w.history n) (rising-map t x w.history r)
       | false ↦ rising-map t x w.history r
-    ]
-
-pub rising-filter : {Op : Type 0} (p : Entry Op → Bool) (l : List (Entry Op)) → IsRising l → IsRising (filter p l)
-rising-filter p [] r = tt
-rising-filter {Op} p (a ∷ l) r =
-    elim (p a) as (λ b. IsRising (cond b (a ∷ filter p l) (filter p l))) [
-      | true ↦ (all-filter (λ (e : Entry Op). is_below a.stamp e.stamp ≡ true) p l r.0, rising-filter p l r.1)
-      | false ↦ rising-filter p l r.1
     ]
 
 pub rising_again : {State Op : Type 0} (t : Meaning State Op) (w : Weave State Op) (x : Entry Op) → IsRising w.history → AllByRecursion (λ e. same_id x.stamp e.stamp ≡ false) w.history → IsRising (deliver t w x).history
@@ -61,20 +53,20 @@ module _ {State Op : Type 0} (t : Meaning State Op) (members : ℕ) (law : IsLaw
 
   pub good_again : (w : Weave State Op) (x : Entry Op) → t.good members w.state → AllByRecursion Issued w.history → Issued x → Lacks t w.state (id_of x.stamp) → t.good members (deliver t w x).state
   good_again w x g h v f =
-      form_good w (present t w.history x) g (Forms.present-issued t members law w.history x h v) (subst (λ s. Lacks t w.state (id_of s)) (sym (present-stamp t w.history x)) f)
+      form_good w (present t w.history x) g (present-issued t members law w.history x h v) (subst (λ s. Lacks t w.state (id_of s)) (sym (present-stamp t w.history x)) f)
 
   form_issued : (w : Weave State Op) (x : Entry Op) → Issued x → AllByRecursion Issued w.history → AllByRecursion Issued (woven_with t w x).history
   unfolding woven_with
   form_issued w x v vs =
       let m = map (acted t x) w.history in
-      let k = all-map Issued Issued (acted t x) (λ e q. Acts.acted-issued t members law x e v q) w.history vs in
+      let k = all-map Issued Issued (acted t x) (λ e q. acted-issued t members law x e v q) w.history vs in
       elim (is_high t x) as (λ b. AllByRecursion Issued (cond b (place x m) m)) [
         | true ↦ all-place Issued x v m k
         | false ↦ k
       ]
 
   pub issued_again : (w : Weave State Op) (x : Entry Op) → AllByRecursion Issued w.history → Issued x → AllByRecursion Issued (deliver t w x).history
-  issued_again w x h v = form_issued w (present t w.history x) (Forms.present-issued t members law w.history x h v) h
+  issued_again w x h v = form_issued w (present t w.history x) (present-issued t members law w.history x h v) h
 
   abbrev pub High : Entry Op → Type 0
   High e = is_high t e ≡ true
@@ -104,16 +96,16 @@ module _ {State Op : Type 0} (t : Meaning State Op) (members : ℕ) (law : IsLaw
       record {
         good = good_again w x h.good vs v f;
         issued = All-from_recursion Issued w'.history (issued_again w x vs v);
-        high = All-from_recursion High w'.history (form_high w (present t w.history x) (Forms.present-issued t members law w.history x vs v) vs (recursion_from_All High w.history h.high));
+        high = All-from_recursion High w'.history (form_high w (present t w.history x) (present-issued t members law w.history x vs v) vs (recursion_from_All High w.history h.high));
         rising = rising_again t w x h.rising (recursion_from_All (λ e. same_id x.stamp e.stamp ≡ false) w.history n);
       }
 
   pub well_trimmed : (w : Weave State Op) (k : Clock) → IsWell t members w → IsWell t members (trim t w k)
   well_trimmed w k h = record {
     good = law.good-settle members w.state k h.good;
-    issued = All-from_recursion Issued (filter (is_outside k) w.history) (all-filter Issued (is_outside k) w.history (recursion_from_All Issued w.history h.issued));
-    high = All-from_recursion High (filter (is_outside k) w.history) (all-filter High (is_outside k) w.history (recursion_from_All High w.history h.high));
-    rising = rising-filter (is_outside k) w.history h.rising;
+    issued = All-from_recursion Issued (filter (is_beyond k) w.history) (all-filter Issued (is_beyond k) w.history (recursion_from_All Issued w.history h.issued));
+    high = All-from_recursion High (filter (is_beyond k) w.history) (all-filter High (is_beyond k) w.history (recursion_from_All High w.history h.high));
+    rising = rising-filter (is_beyond k) w.history h.rising;
   }
 
   pub well_bare : (s : State) → t.good members s → IsWell t members (pair s [])

@@ -1,7 +1,6 @@
 -- A list in which the first ones were changed.
-use Rattle.std.proofs.Common.{◌≡◌, ℕ, zero, suc, ◌+◌, ◌≤◌, ◌<◌, List, [], ◌∷◌, refl, ap, sym, ◌∙◌, subst, arith, length, get_or, set, map}
-use Rattle.std.specs.List.{All, AllByRecursion}
-use Rattle.std.proofs.lemmas.List.Elements.{recursion_from_All}
+use Rattle.std.proofs.Common.{◌≡◌, ℕ, zero, suc, ◌≤◌, ◌<◌, List, [], ◌∷◌, refl, ap, sym, ◌∙◌, subst, arith, length, get_or, set, map}
+use Rattle.std.specs.List.{AllByRecursion}
 
 abbrev pub changed : {X : Type 0} → (X → X) → ℕ → List X → List X
 changed f zero xs = xs

@@ -1,7 +1,6 @@
 -- Steps of an arrival.
-use Rattle.std.proofs.Common.{◌≡◌, ℕ, ◌+◌, ◌≤◌, ◌<◌, Bool, true, false, List, [], ◌∷◌, cond, refl, ap, ap₂, sym, ◌∙◌, subst, arith, add-one, length, get_or, set, map}
-use Rattle.std.specs.List.{All, AllByRecursion, filter}
-use Rattle.std.proofs.lemmas.List.Elements.{recursion_from_All, All-from_recursion}
+use Rattle.std.proofs.Common.{◌≡◌, ℕ, ◌+◌, ◌≤◌, ◌<◌, List, ap, ap₂, sym, ◌∙◌, subst, arith, add-one, length, get_or, set, map}
+use Rattle.std.proofs.lemmas.List.Elements.{recursion_from_All}
 use Rattle.vector_clock.specs.declared.stamp.Stamp.{Stamp}
 use Rattle.crdt_laws.specs.declared.small.Entry.{Entry}
 use Rattle.crdt_laws.specs.Entry.{entry}

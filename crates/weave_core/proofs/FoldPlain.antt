@@ -15,11 +15,11 @@ use Rattle.crdt_laws.specs.Document.{MayFollow}
 use Rattle.crdt_laws.specs.Entry.{entry}
 use Rattle.crdt_laws.specs.Present.{acted, apply_all, document_from, own_forms, present, with_next}
 use Rattle.crdt_laws.specs.Tower.{Meaning, IsIssued, IsLawful, Lacks}
-use Rattle.crdt_laws.proofs.Acts
 use Rattle.crdt_laws.proofs.Ready.{IsReady, drop_item, left_next, may_follow, ready_next}
-use Rattle.weave_core.specs.Deliver.{IsRun, is_high, kept_with}
+use Rattle.weave_model.specs.Deliver.{IsRun, is_high}
+use Rattle.weave_core.specs.Deliver.{kept_with}
 use Rattle.weave_core.proofs.Kept
-use Rattle.weave_core.proofs.Kept.{present-kept}
+use Rattle.weave_model.proofs.Kept.{present_kept}
 use Rattle.vector_clock.proofs.Ordered.{all-filter}
 
 -- The operations xs are left, h are the kept forms of those before them, and the state s with xs gives d.
@@ -49,7 +49,7 @@ module _ {State Op : Type 0} (t : Meaning State Op) (law : IsLawful t) where
 
   -- the form of the next one by the kept forms is that by all
   next_form : (s : State) (es xs : List (Entry Op)) (x : Entry Op) → IsReady t s es (x ∷ xs) → present t (filter (is_high t) es) x ≡ present t es x
-  next_form s es xs x r = present-kept t es x (law.level_low x.op (Acts.formed t r.members law x r.issued.0))
+  next_form s es xs x r = present_kept t r.members law x r.issued.0 es
 
   follows_kept : (s : State) (h es : List (Entry Op)) (x : Entry Op) → h ≡ filter (is_high t) es → MayFollow t s es x → MayFollow t s h x
   follows_kept s h es x e f =

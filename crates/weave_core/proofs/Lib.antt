@@ -3,7 +3,6 @@ pub mod Kept
 pub mod FoldPlain
 pub mod Split
 pub mod Runs
-pub mod Loops
 pub mod Changed
 pub mod Delivered
 pub mod Again

@@ -6,8 +6,7 @@ ghost use Rattle.crdt_laws.specs.Sets.{AreIssued, IsRising, place};
 ghost use Rattle.crdt_laws.specs.Tower.{IsIssued};
 ghost use Rattle.weave_model.specs.Deliver.{is_high};
 
-use crate::parts::{outside, place_in};
-use crdt_laws::{Entry, NoMemory, Ops, Tower, present_form};
+use crdt_laws::{Entry, NoMemory, Ops, Tower, beyond, place_in, present_form};
 use std::alloc::Global;
 use std::marker::Model;
 use vector_clock::{Clock, Stamp};
@@ -148,7 +147,9 @@ impl<T: Tower> Woven<T> {
     {
         let Woven { state, history } = self;
         let state = tower.settle(alloc, state, k)?;
-        let history = outside(alloc, history, k)?;
-        Ok(Woven { state, history })
+        Ok(Woven {
+            state,
+            history: beyond(history, k),
+        })
     }
 }

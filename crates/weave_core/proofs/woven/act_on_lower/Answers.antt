@@ -1,4 +1,4 @@
-use Rattle.std.proofs.Common.{◌≡◌, ◌∙◌, ◌≤◌, ap, sym, subst, arith, length, get_or, map}
+use Rattle.std.proofs.Common.{◌∙◌}
 use Rattle.crdt_laws.specs.Entry.{entry}
 use Rattle.crdt_laws.specs.Present.{acted}
 use Rattle.weave_core.proofs.Changed.{changed_all}

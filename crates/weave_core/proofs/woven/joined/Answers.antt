@@ -1,6 +1,5 @@
-use Rattle.std.proofs.Common.{◌≡◌, ◌∙◌, sym, subst, ap, map}
+use Rattle.std.proofs.Common.{sym, subst}
 use Rattle.crdt_laws.specs.Entry.{entry}
-use Rattle.crdt_laws.specs.Present.{acted}
 use Rattle.std.specs.List.{AllByRecursion}
 use Rattle.std.proofs.lemmas.List.Elements.{recursion_from_All, All-from_recursion}
 use Rattle.vector_clock.specs.Stamp.{IsStamp}

@@ -1,7 +1,6 @@
-use Rattle.std.proofs.Common.{◌≡◌, ◌∙◌, sym, subst, ap, true, map}
-use Rattle.std.proofs.lemmas.List.Elements.{recursion_from_All}
+use Rattle.std.proofs.Common.{◌≡◌, ◌∙◌, sym, subst, ap}
 use Rattle.crdt_laws.specs.Entry.{entry}
-use Rattle.weave_model.specs.Deliver.{Weave, deliver, IsWell}
+use Rattle.weave_model.specs.Deliver.{deliver, IsWell}
 use Rattle.weave_model.proofs.Arrivals
 use Rattle.weave_model.proofs.Swap.{pair}
 use Rattle.weave_core.proofs.Again

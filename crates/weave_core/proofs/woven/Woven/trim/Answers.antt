@@ -8,6 +8,6 @@ pub returns-clause-well : goal.returns-clause-well
 returns-clause-well g c =
     let t = g.T.Tower.meaning c.args.tower.now in
     let n = c.args.k.now.n in
-    let is : record { state = c.in_ok-state.state; history = c.in_ok-history.history } ≡ trim t c.args.self c.args.k.now =
-    ap₂ pair c.in_ok-state.ensures.ok c.in_ok-history.ensures ∙ ap (λ w. trim t w c.args.k.now) c.self.view_is in
+    let is : record { state = c.in_ok-state.state; history = c.beyond.result } ≡ trim t c.args.self c.args.k.now =
+    ap₂ pair c.in_ok-state.ensures.ok c.beyond.ensures ∙ ap (λ w. trim t w c.args.k.now) c.self.view_is in
     subst (IsWell t n) (sym is) (Again.well_trimmed t n (g.met.T.Tower.lawful c.args.tower.now) c.args.self c.args.k.now c.requires.well)
