@@ -7,17 +7,17 @@ use Rattle.serde_json.specs.Data.{Data, array, string}
 use Rattle.serde_json.specs.View.{items_of}
 use Rattle.vector_clock.specs.declared.clock.Clock.{Clock}
 use Rattle.vector_clock.specs.declared.stamp.Stamp.{Stamp}
-use Rattle.vector_clock.specs.Clock.{covers}
-use Rattle.vector_clock.specs.Stamp.{id_of, is_before, is_below, same_id}
+use Rattle.vector_clock.specs.Sets as stamped
+use Rattle.vector_clock.specs.Stamp.{is_before, is_below, same_id}
 use Rattle.crdt_laws.specs.declared.small.Entry.{Entry}
 use Rattle.crdt_laws.specs.Entry.{entry}
 use Rattle.crdt_laws.specs.Present.{apply_all}
-use Rattle.crdt_laws.specs.Sets.{AreApart, IsCausal, IsHonest, IsRising, canonical, place}
+use Rattle.crdt_laws.specs.Sets.{AreApart, IsCausal, IsHonest, IsRising, beyond, canonical, is_beyond, place}
 use Rattle.crdt_laws.proofs.Filters.{all-place, all_true, rising-filter}
 use Rattle.crdt_laws.proofs.Members.{Contains-canonical, Contains-cases, Contains-front, Contains-more, Contains-place, at_member, each, filter_has, filter_inside, filter_passed, rising_same}
 use Rattle.crdt_laws.proofs.Place.{rising-canonical}
 use Rattle.register_crdts.specs.declared.several.Held.{Held}
-use Rattle.register_crdts.specs.Several.{AreRising, held, is_unknown, is_unseen, place_held, several_apply, several_meaning, several_show, texts_of}
+use Rattle.register_crdts.specs.Several.{held, is_unseen, several_apply, several_meaning, several_show, texts_of}
 use Rattle.register_crdts.specs.SeveralLaws.{rising-apply}
 use Rattle.vector_clock.proofs.Ordered.{all_weaker}
 
@@ -45,42 +45,42 @@ from-place x l e c =
 abbrev entries : List Held → List E
 entries s = map (λ h. entry h.stamp h.text) s
 
-abbrev unknown : Clock → E → Bool
-unknown k e = not (covers k (id_of e.stamp))
+abbrev at : Held → Stamp
+at h = h.stamp
 
 abbrev after : List E → E → List E
-after s x = place x (filter (unknown x.stamp.clock) s)
+after s x = place x (beyond x.stamp.clock s)
 
-entries-place : (h : Held) (l : List Held) → entries (place_held h l) ≡ place (entry h.stamp h.text) (entries l)
+entries-place : (h : Held) (l : List Held) → entries (stamped.place at h l) ≡ place (entry h.stamp h.text) (entries l)
 entries-place h [] = refl
 entries-place h (g ∷ l) =
-    let ih : entries (place_held h l) ≡ place (entry h.stamp h.text) (entries l) = entries-place h l in
-    elim (is_below h.stamp g.stamp) as (λ b. entries (cond b (h ∷ g ∷ l) (g ∷ place_held h l)) ≡ cond b (entry h.stamp h.text ∷ entry g.stamp g.text ∷ entries l) (entry g.stamp g.text ∷ place (entry h.stamp h.text) (entries l))) [
+    let ih : entries (stamped.place at h l) ≡ place (entry h.stamp h.text) (entries l) = entries-place h l in
+    elim (is_below h.stamp g.stamp) as (λ b. entries (cond b (h ∷ g ∷ l) (g ∷ stamped.place at h l)) ≡ cond b (entry h.stamp h.text ∷ entry g.stamp g.text ∷ entries l) (entry g.stamp g.text ∷ place (entry h.stamp h.text) (entries l))) [
       | true ↦ refl
       | false ↦ ap (λ (z : List E). entry g.stamp g.text ∷ z) ih
     ]
 
-entries-filter : (k : Clock) (l : List Held) → entries (filter (is_unknown k) l) ≡ filter (unknown k) (entries l)
-entries-filter k [] = refl
-entries-filter k (g ∷ l) =
-    let ih : entries (filter (is_unknown k) l) ≡ filter (unknown k) (entries l) = entries-filter k l in
-    elim (is_unknown k g) as (λ b. entries (cond b (g ∷ filter (is_unknown k) l) (filter (is_unknown k) l)) ≡ cond b (entry g.stamp g.text ∷ filter (unknown k) (entries l)) (filter (unknown k) (entries l))) [
+entries-beyond : (k : Clock) (l : List Held) → entries (stamped.beyond at k l) ≡ beyond k (entries l)
+entries-beyond k [] = refl
+entries-beyond k (g ∷ l) =
+    let ih : entries (stamped.beyond at k l) ≡ beyond k (entries l) = entries-beyond k l in
+    elim (stamped.is_beyond at k g) as (λ b. entries (cond b (g ∷ stamped.beyond at k l) (stamped.beyond at k l)) ≡ cond b (entry g.stamp g.text ∷ beyond k (entries l)) (beyond k (entries l))) [
       | true ↦ ap (λ (z : List E). entry g.stamp g.text ∷ z) ih
       | false ↦ ih
     ]
 
 entries-apply : (s : List Held) (x : E) → entries (several_apply s x.stamp x.op) ≡ after (entries s) x
-entries-apply s x = entries-place (held x.stamp x.op) (filter (is_unknown x.stamp.clock) s) ∙ ap (place x) (entries-filter x.stamp.clock s)
+entries-apply s x = entries-place (held x.stamp x.op) (stamped.beyond at x.stamp.clock s) ∙ ap (place x) (entries-beyond x.stamp.clock s)
 
 above-entries : (p : Stamp) (l : List Held) → AllByRecursion (λ h. is_below p h.stamp ≡ true) l → AllByRecursion (λ e. is_below p e.stamp ≡ true) (entries l)
 above-entries p [] h = tt
 above-entries p (a ∷ l) h = (h.0, above-entries p l h.1)
 
-rising-entries : (l : List Held) → AreRising l → IsRising (entries l)
+rising-entries : (l : List Held) → stamped.IsRising at l → IsRising (entries l)
 rising-entries [] r = tt
 rising-entries (a ∷ l) r = (above-entries a.stamp l r.0, rising-entries l r.1)
 
-rising_all : (xs : List E) (s : List Held) → AreRising s → AreRising (apply_all several_meaning s xs)
+rising_all : (xs : List E) (s : List Held) → stamped.IsRising at s → stamped.IsRising at (apply_all several_meaning s xs)
 rising_all [] s r = r
 rising_all (x ∷ xs) s r = rising_all xs (several_apply s x.stamp x.op) (rising-apply s x.stamp x.op r)
 
@@ -100,18 +100,18 @@ not_before_itself : (p : Stamp) → is_before p p ≡ false
 unfolding is_before same_id
 not_before_itself p = grind (arith, nat_tests)
 
-not_before : (e x : E) → unknown x.stamp.clock e ≡ true → is_before e.stamp x.stamp ≡ false
+not_before : (e x : E) → is_beyond x.stamp.clock e ≡ true → is_before e.stamp x.stamp ≡ false
 unfolding is_before
 not_before e x h = grind arith
 
-unknown_from : (e x : E) → is_before e.stamp x.stamp ≡ false → same_id e.stamp x.stamp ≡ false → unknown x.stamp.clock e ≡ true
+beyond_from : (e x : E) → is_before e.stamp x.stamp ≡ false → same_id e.stamp x.stamp ≡ false → is_beyond x.stamp.clock e ≡ true
 unfolding is_before
-unknown_from e x h k = grind arith
+beyond_from e x h k = grind arith
 
 module _ (A : E → Type 0) (s : List E) (x : E) (stands : StandsFor A s) where
   after_from : ((f : E) → A f → is_before x.stamp f.stamp ≡ false) → (e : E) → Contains (after s x) e
       → ((x ≡ e) ⊎ A e) × ((f : E) → (x ≡ f) ⊎ A f → is_before e.stamp f.stamp ≡ false)
-  after_from cross e c = elim (Contains-cases x (filter (unknown x.stamp.clock) s) e (from-place x (filter (unknown x.stamp.clock) s) e c)) [
+  after_from cross e c = elim (Contains-cases x (beyond x.stamp.clock s) e (from-place x (beyond x.stamp.clock s) e c)) [
     | inl q ↦ (
       inl q,
       subst (λ z. (f : E) → (x ≡ f) ⊎ A f → is_before z.stamp f.stamp ≡ false) q (λ f h. elim h [
@@ -120,7 +120,7 @@ module _ (A : E → Type 0) (s : List E) (x : E) (stands : StandsFor A s) where
       ]),
     )
     | inr k ↦
-        (let w = (contains-filter (unknown x.stamp.clock) s e).0 k in
+        (let w = (contains-filter (is_beyond x.stamp.clock) s e).0 k in
         let r = (stands.each e).0 w.0 in (
           inr r.0,
           λ f h. elim h [
@@ -132,12 +132,12 @@ module _ (A : E → Type 0) (s : List E) (x : E) (stands : StandsFor A s) where
 
   after_to : ((e : E) → A e → same_id e.stamp x.stamp ≡ true → e ≡ x) → (e : E) → (x ≡ e) ⊎ A e
       → ((f : E) → (x ≡ f) ⊎ A f → is_before e.stamp f.stamp ≡ false) → Contains (after s x) e
-  after_to same e h unseen = Contains-place x (filter (unknown x.stamp.clock) s) e (elim h [
-    | inl q ↦ subst (λ z. Contains (x ∷ filter (unknown x.stamp.clock) s) z) q (Contains-front x (filter (unknown x.stamp.clock) s))
+  after_to same e h unseen = Contains-place x (beyond x.stamp.clock s) e (elim h [
+    | inl q ↦ subst (λ z. Contains (x ∷ beyond x.stamp.clock s) z) q (Contains-front x (beyond x.stamp.clock s))
     | inr a ↦ elim (cases_Bool (same_id e.stamp x.stamp)) [
-      | inl t ↦ subst (λ z. Contains (x ∷ filter (unknown x.stamp.clock) s) z) (sym (same e a t)) (Contains-front x (filter (unknown x.stamp.clock) s))
-      | inr d ↦ Contains-more x (filter (unknown x.stamp.clock) s) e ((contains-filter (unknown x.stamp.clock) s e).1
-          ((stands.each e).1 (a, λ f b. unseen f (inr b)), unknown_from e x (unseen x (inl refl)) d))
+      | inl t ↦ subst (λ z. Contains (x ∷ beyond x.stamp.clock s) z) (sym (same e a t)) (Contains-front x (beyond x.stamp.clock s))
+      | inr d ↦ Contains-more x (beyond x.stamp.clock s) e ((contains-filter (is_beyond x.stamp.clock) s e).1
+          ((stands.each e).1 (a, λ f b. unseen f (inr b)), beyond_from e x (unseen x (inl refl)) d))
     ]
   ])
 

@@ -10,11 +10,12 @@ use Rattle.vector_clock.specs.Clock.{IsAtMost, count, covers}
 use Rattle.vector_clock.specs.Stamp.{id_of, is_less, is_below, same_id}
 use Rattle.vector_clock.proofs.Keys.{key_asym, key_total, concurrent_other}
 use Rattle.crdt_laws.specs.Tower.{IsLawful, IsIssued, MaySwap}
-use Rattle.register_crdts.specs.declared.latest.Set.{Set}
 use Rattle.crdt_laws.proofs.KeyRanges.{key_issued}
+use Rattle.crdt_laws.proofs.Plain.{flat_lawful}
+use Rattle.register_crdts.specs.declared.latest.Set.{Set}
 use Rattle.register_crdts.specs.Latest.{IsSetOf, id_of_key, later, latest_apply, latest_good, latest_good_at, latest_meaning, set_at}
 
-pub less_trans : (j k l : Key) → is_less j k ≡ true → is_less k l ≡ true → is_less j l ≡ true
+less_trans : (j k l : Key) → is_less j k ≡ true → is_less k l ≡ true → is_less j l ≡ true
 unfolding is_less
 less_trans j k l a b = grind (arith, nat_tests)
 
@@ -66,34 +67,19 @@ good_at-apply d (Some s) p x good issued covered =
     kept_by (λ t. IsSetOf d.n t × IsTrue (covers d (id_of_key t.key))) s (set_at p x) good (new_set d.n p x issued, covered)
 
 pub latest_lawful : IsLawful latest_meaning
-latest_lawful = record {
+latest_lawful = flat_lawful latest_meaning (record {
+  settle = λ s k. refl;
+  holds = λ s p h. h;
+  top = omega arith;
+  level = λ x. refl;
+  act = λ y x. refl;
   valid_within = λ p x h. h.within;
   valid_well_formed = λ p x h. h.text;
-  level_low = λ x _. omega arith;
-  level_top = λ x _. omega arith;
-  level-act = λ y x _ _. refl;
-  act_below = λ y x _ _ _. refl;
-  well_formed-act = λ y x _ h. h;
-  valid-act = λ p y x _ _ h. h;
-  commute = λ n s p q x y may _ _ _. commute n s p q x y may;
-  exchange = λ n s p q x y _ _ _ h. absurd (omega (arith, h));
-  act-act = λ y v x _ _ _ _. refl;
-  distribute = λ z y x _ _ _ h _. absurd (omega (arith, h));
-  settle-apply = λ n s k p x _ _ _ _ _. refl;
-  settle-settle = λ n s k l _ _ _ _. refl;
-  settle-init = λ k. refl;
-  show-settle = λ n s k _. refl;
+  commute = λ n s p q x y may _ _. commute n s p q x y may;
   good-init = λ n. tt;
-  good-apply = λ n s p x good issued _. good-apply n s p x good issued;
-  good-settle = λ n s k h. h;
+  good-apply = good-apply;
   good_at_good = good_at_good;
   good_at-init = λ d. tt;
   good_at_later = good_at_later;
-  good_at-apply = λ d s p x good issued _ _ covered. good_at-apply d s p x good issued covered;
-  good_at-settle = λ d s k h. h;
-  holds-init = λ p h. h;
-  holds-apply = λ s p x q h. inr h;
-  holds-settle = λ s k q h. h;
-  plain_settle = λ s k _. refl;
-  plain_holds = λ s p _ h. h;
-}
+  good_at-apply = λ d s p x good issued _ covered. good_at-apply d s p x good issued covered;
+})

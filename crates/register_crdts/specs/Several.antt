@@ -1,12 +1,11 @@
 -- What a register means that keeps each text of which no later set knew.
-use Rattle.std.specs.Prelude.{ℕ, List, [], ◌∷◌, Bool, not, true, false, if◌then◌else◌, IsTrue, map}
-use Rattle.std.specs.List.{AllByRecursion, filter, list_all}
+use Rattle.std.specs.Prelude.{ℕ, List, [], Bool, not, true, false, map}
+use Rattle.std.specs.List.{AllByRecursion, list_all}
 use Rattle.serde_json.specs.Data.{Data, string, array}
 use Rattle.serde_json.specs.View.{items_of}
-use Rattle.vector_clock.specs.declared.clock.Clock.{Clock}
 use Rattle.vector_clock.specs.declared.stamp.Stamp.{Stamp}
-use Rattle.vector_clock.specs.Clock.{IsAtMost, covers}
-use Rattle.vector_clock.specs.Stamp.{id_of, is_before, is_below}
+use Rattle.vector_clock.specs.Sets.{IsRising, beyond, place}
+use Rattle.vector_clock.specs.Stamp.{IsKnownTo, is_before}
 use Rattle.crdt_laws.specs.declared.small.Entry.{Entry}
 use Rattle.crdt_laws.specs.Tower.{Meaning, IsStampOf, IsWithin}
 use Rattle.register_crdts.specs.declared.several.Held.{Held}
@@ -16,18 +15,9 @@ use Rattle.register_crdts.specs.Text.{IsText, IsTextAt}
 abbrev pub held : Stamp → List ℕ → Held
 held p x = record { stamp = p; text = x }
 
--- whether the clock does not know of the set
-abbrev pub is_unknown : Clock → Held → Bool
-is_unknown k h = not (covers k (id_of h.stamp))
-
--- the sets with h in its place by key
-abbrev pub place_held : Held → List Held → List Held
-place_held h [] = h ∷ []
-place_held h (g ∷ gs) = if is_below h.stamp g.stamp then h ∷ g ∷ gs else g ∷ place_held h gs
-
--- a set removes those that its member knew of, and is added
+-- a set removes those that its member knew of, and is added in its place by key
 abbrev pub several_apply : List Held → Stamp → List ℕ → List Held
-several_apply s p x = place_held (held p x) (filter (is_unknown p.clock) s)
+several_apply s p x = place (λ h. h.stamp) (held p x) (beyond (λ h. h.stamp) p.clock s)
 
 -- a set of a document with n members
 pub record IsHeldOf (n : ℕ) (h : Held) : Type 0 where
@@ -35,20 +25,10 @@ pub record IsHeldOf (n : ℕ) (h : Held) : Type 0 where
   pub within : IsWithin h.stamp
   pub text : IsText h.text
 
--- strictly rising keys
-abbrev pub AreRising : List Held → Type 0
-AreRising [] = Unit {0}
-AreRising (h ∷ hs) = AllByRecursion (λ g. IsTrue (is_below h.stamp g.stamp)) hs × AreRising hs
-
--- the sets of a document with n members, by key
+-- the sets of a document with n members, by strictly rising key
 pub record IsSeveralOf (n : ℕ) (s : List Held) : Type 0 where
-  pub rising : AreRising s
+  pub rising : IsRising (λ h. h.stamp) s
   pub sets : AllByRecursion (IsHeldOf n) s
-
--- the clock covers the set, and knows all that its member knew
-pub record IsKnownTo (d : Clock) (h : Held) : Type 0 where
-  pub covered : IsTrue (covers d (id_of h.stamp))
-  pub known : IsAtMost h.stamp.clock d
 
 -- the texts by rising key
 abbrev pub several_show : List Held → Data
@@ -67,7 +47,7 @@ several_meaning = record {
   settle = λ s _. s;
   show = several_show;
   good = IsSeveralOf;
-  good_at = λ d s. IsSeveralOf d.n s × AllByRecursion (IsKnownTo d) s;
+  good_at = λ d s. IsSeveralOf d.n s × AllByRecursion (λ h. IsKnownTo d h.stamp) s;
   holds = λ _ _. ⊥;
   sparing = false;
   plain = true;

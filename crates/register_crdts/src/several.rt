@@ -1,14 +1,13 @@
-ghost use Rattle.std.specs.Prelude.{◌≡◌, ◌≤◌, ℕ, List, length, IfOk};
-ghost use Rattle.std.specs.List.{AllByRecursion, filter, insert};
-ghost use Rattle.vector_clock.specs.Clock.{covers};
-ghost use Rattle.vector_clock.specs.Stamp.{IsStamp, id_of, is_less};
-ghost use Rattle.register_crdts.specs.Several.{AreRising, held, is_unknown, place_held};
+ghost use Rattle.std.specs.Prelude.{◌≡◌, IfOk};
+ghost use Rattle.std.specs.List.{All};
+ghost use Rattle.vector_clock.specs.Sets.{IsRising, beyond, place};
+ghost use Rattle.vector_clock.specs.Stamp.{IsStamp};
 
 use crate::text::{is_text_at, show_text};
 use crdt_laws::{List, NoMemory, Tower, Txt};
 use serde_json::Value;
 use std::alloc::Global;
-use vector_clock::{Clock, Key, Stamp};
+use vector_clock::{Clock, Stamp, Stamped, place_of};
 
 /// A text that was set, with the stamp of the operation that set it.
 #[derive(Debug, Drop)]
@@ -17,66 +16,35 @@ pub struct Held {
     pub text: Txt,
 }
 
+impl Stamped for Held {
+    ghost at = { λ h. h.stamp };
+
+    fn stamp(&self) -> &Stamp {
+        &self.stamp
+    }
+}
+
 /// The register that keeps each text of which no later set knew, so that concurrent sets all stay until one comes that knew
 /// of them: it is the multi-value register. Its operation is the text to set, of at most 1,024 bytes of UTF-8. Its state has
 /// the sets by rising key, and it shows the array of their texts. It is plain, and never sparing.
 #[derive(Clone, Copy, Debug, PartialEq, Eq)]
 pub struct Several;
 
-/// Whether the clock knows of the operation at this stamp.
-fn knows(clock: &Clock, stamp: &Stamp) -> bool
-    ensures { result ≡ covers clock.now (id_of stamp.now) }
-{
-    let member = stamp.member as usize;
-    let seq = stamp.clock.at.get(member).copied().unwrap_or(0);
-    seq <= clock.at.get(member).copied().unwrap_or(0)
-}
-
-/// The sets of which the clock does not know, in their order.
-fn without_known(sets: List<Held>, clock: &Clock) -> List<Held>
-    ensures { result ≡ filter (is_unknown clock.now) sets }
+/// The sets that the clock does not cover, in their order.
+fn beyond(sets: List<Held>, clock: &Clock) -> List<Held>
+    ensures { result ≡ beyond (λ h. h.stamp) clock.now sets }
 {
     let List { mut items } = sets;
-    items.retain(|held| !knows(clock, &held.stamp));
+    items.retain(|held| !clock.covers(held.stamp.id()));
     List { items }
-}
-
-/// Whether the first key is less.
-#[tactic(auto, unfolding(vector_clock::specs::Stamp::is_less))]
-fn is_less(a: &Key, b: &Key) -> bool
-    ensures { result ≡ is_less a.now b.now }
-{
-    a < b
-}
-
-/// Where a set of this stamp goes among sets by rising key: before the first one of a greater key.
-fn place_of(sets: &[Held], stamp: &Stamp) -> usize
-    requires stamp { IsStamp stamp.now }
-    requires stamps { AllByRecursion (λ h. IsStamp h.stamp) sets.now }
-    requires rising { AreRising sets.now }
-    ensures within { result ≤ length sets.now }
-    ensures place { (text : List ℕ) → insert sets.now result (held stamp.now text) ≡ place_held (held stamp.now text) sets.now }
-{
-    let key = stamp.key();
-    let mut low = 0;
-    let mut high = sets.len();
-    while low < high {
-        let middle = low + (high - low) / 2;
-        if is_less(&key, &sets[middle].stamp.key()) {
-            high = middle;
-        } else {
-            low = middle + 1;
-        }
-    }
-    low
 }
 
 /// The sets with one more in its place by key.
 fn with_held(sets: List<Held>, held: Held) -> Result<List<Held>, NoMemory>
     requires stamp { IsStamp held.stamp }
-    requires stamps { AllByRecursion (λ h. IsStamp h.stamp) sets }
-    requires rising { AreRising sets }
-    ensures { IfOk result (λ s. s ≡ place_held held sets) }
+    requires stamps { All (λ h. IsStamp h.stamp) sets }
+    requires rising { IsRising (λ h. h.stamp) sets }
+    ensures { IfOk result (λ s. s ≡ place (λ h. h.stamp) held sets) }
 {
     let List { mut items } = sets;
     let place = place_of(items.as_slice(), &held.stamp);
@@ -122,7 +90,7 @@ impl Tower for Several {
             stamp: *stamp,
             text,
         };
-        with_held(without_known(state, &stamp.clock), held)
+        with_held(beyond(state, &stamp.clock), held)
     }
 
     fn act(&self, alloc: Global, _y: &Txt, x: &Txt) -> Result<Txt, NoMemory> {

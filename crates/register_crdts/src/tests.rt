@@ -6,7 +6,7 @@ use super::*;
 use crdt_laws::{NoMemory, Tower, Txt};
 use std::alloc::Global;
 use std::test::Fail;
-use vector_clock::{Clock, Stamp};
+use vector_clock::{Clock, MAX_SEQ, Stamp};
 
 fn text(alloc: Global, words: &str) -> Result<Txt, NoMemory> {
     Ok(Txt {
@@ -137,8 +137,8 @@ fn texts_have_limits(rt: HostRuntime) -> Result<(), Fail> {
         (1, e_acute, 512, true),
         (1, e_acute, 513, false),
         (1, half, 1, false),
-        (1_000_000, b"a".as_slice(), 1, true),
-        (1_000_001, b"a".as_slice(), 1, false),
+        (MAX_SEQ, b"a".as_slice(), 1, true),
+        (MAX_SEQ + 1, b"a".as_slice(), 1, false),
     ];
     for (seq, bytes, times, valid) in rows {
         assert_eq!(rt;
