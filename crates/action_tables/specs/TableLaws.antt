@@ -5,6 +5,7 @@ use Rattle.std.proofs.lemmas.Bool.{cases_lt}
 use Rattle.std.proofs.lemmas.Nat.{mul-add-lt}
 use Rattle.std.proofs.lemmas.List.Recursion.{max_bounds}
 use Rattle.crdt_laws.specs.Tower.{IsLawful}
+use Rattle.crdt_laws.proofs.Plain.{plain_lawful}
 use Rattle.action_tables.specs.Table.{ActionTable, op_count, level_of, next_of, act_of, IsTable, KeepsLaws, greatest, table_meaning}
 
 module _ (t : ActionTable) (table : IsTable t) where
@@ -38,7 +39,9 @@ module _ (t : ActionTable) (table : IsTable t) (keeps : KeepsLaws t) where
       ]
 
   pub table_lawful : IsLawful (table_meaning t)
-  table_lawful = record {
+  table_lawful = plain_lawful (table_meaning t) (record {
+    settle = λ s k. refl;
+    holds = λ s p h. h;
     valid_within = λ p x h. h.within;
     valid_well_formed = λ p x h. h.op;
     level_low = λ x h. table.levels.low x h;
@@ -51,21 +54,10 @@ module _ (t : ActionTable) (table : IsTable t) (keeps : KeepsLaws t) where
     exchange = λ n s p q x y w h k below. keeps.exchange y x s k.valid.op h.valid.op w.good below;
     act-act = λ y v x h j k same. act_alike y v x h j k same;
     distribute = λ z y x h j k one two. keeps.distribute z y x h j k one two;
-    settle-apply = λ n s k p x _ _ _ _ _. refl;
-    settle-settle = λ n s k l _ _ _ _. refl;
-    settle-init = λ k. refl;
-    show-settle = λ n s k _. refl;
     good-init = λ n. table.sizes.starts;
-    good-apply = λ n s p x h k _. next_low t table s x h k.valid.op;
-    good-settle = λ n s k h. h;
+    good-apply = λ n s p x h k. next_low t table s x h k.valid.op;
     good_at_good = λ d s h. h;
     good_at-init = λ d. table.sizes.starts;
     good_at_later = λ d e s _ _ h. h;
-    good_at-apply = λ d s p x h k _ _ _. next_low t table s x h k.valid.op;
-    good_at-settle = λ d s k h. h;
-    holds-init = λ p h. h;
-    holds-apply = λ s p x q h. inr h;
-    holds-settle = λ s k q h. h;
-    plain_settle = λ s k _. refl;
-    plain_holds = λ s p _ h. h;
-  }
+    good_at-apply = λ d s p x h k _ _. next_low t table s x h k.valid.op;
+  })

@@ -3,6 +3,7 @@ use Rattle.std.specs.Prelude.{◌≡◌, ℕ, ◌*◌, ◌<◌, ◌≤◌}
 use Rattle.std.proofs.Common.{refl, arith, inr}
 use Rattle.std.proofs.lemmas.Bool.Decides.{nat_tests}
 use Rattle.crdt_laws.specs.Tower.{IsLawful}
+use Rattle.crdt_laws.proofs.Plain.{plain_lawful}
 use Rattle.flag_crdts.specs.Ladder.{IsLadderSize, ladder_act, ladder_level, ladder_meaning, ladder_next}
 
 module _ (n : ℕ) where
@@ -39,34 +40,25 @@ module _ (n : ℕ) where
   next_low s o h = grind (arith, nat_tests)
 
   pub ladder_lawful : IsLadderSize n → IsLawful (ladder_meaning n)
-  ladder_lawful size = record {
+  ladder_lawful size = plain_lawful (ladder_meaning n) (record {
+    settle = λ s k. refl;
+    holds = λ s p h. h;
     valid_within = λ p x h. h.within;
     valid_well_formed = λ p x h. h.op;
     level_low = λ x h. omega arith;
-    level_top = λ x h. level_top x h;
+    level_top = level_top;
     level-act = λ y x _ h. level-act y x h;
     act_below = λ y x _ _ below. act_below y x below;
     well_formed-act = λ y x _ h. act_low y x h;
     valid-act = λ p y x _ _ h. record { within = h.within; op = act_low y x h.op };
     commute = λ n s p q x y w h k same. commute s x y h.valid.op k.valid.op same;
     exchange = λ n s p q x y w h k below. exchange s x y h.valid.op k.valid.op below;
-    act-act = λ y v x h j k same. act-act y v x h j k same;
-    distribute = λ z y x h j k one two. distribute z y x h j k one two;
-    settle-apply = λ n s k p x _ _ _ _ _. refl;
-    settle-settle = λ n s k l _ _ _ _. refl;
-    settle-init = λ k. refl;
-    show-settle = λ n s k _. refl;
+    act-act = act-act;
+    distribute = distribute;
     good-init = λ _. omega (arith, size.some);
-    good-apply = λ n s p x h _ _. next_low s x h;
-    good-settle = λ n s k h. h;
+    good-apply = λ n s p x h _. next_low s x h;
     good_at_good = λ d s h. h;
     good_at-init = λ _. omega (arith, size.some);
     good_at_later = λ d e s _ _ h. h;
-    good_at-apply = λ d s p x h _ _ _ _. next_low s x h;
-    good_at-settle = λ d s k h. h;
-    holds-init = λ p h. h;
-    holds-apply = λ s p x q h. inr h;
-    holds-settle = λ s k q h. h;
-    plain_settle = λ s k _. refl;
-    plain_holds = λ s p _ h. h;
-  }
+    good_at-apply = λ d s p x h _ _ _. next_low s x h;
+  })
