@@ -1,14 +1,14 @@
 -- The stamp of a member's next operation, and the replica once it is in.
-use Rattle.std.proofs.Common.{List, [], ◌∷◌, ◌++◌, ◌≡◌, ℕ, ◌+◌, ◌<◌, ◌≤◌, true, false, length, get_or, ap, ap₂, ◌∙◌, refl, sym, subst, inl, inr, arith, fold}
+use Rattle.std.proofs.Common.{List, [], ◌∷◌, ◌++◌, ◌≡◌, ℕ, ◌+◌, ◌<◌, ◌≤◌, true, false, get_or, ap, ap₂, ◌∙◌, refl, sym, subst, inl, inr, arith, fold}
 use Rattle.std.specs.List.{All, AllByRecursion}
 use Rattle.std.proofs.Math.ListN.{set}
 use Rattle.std.proofs.lemmas.Bool.{cases_eq, lt-leb}
-use Rattle.std.proofs.lemmas.List.{get_or-set_other, get_or-set_same, length-set}
+use Rattle.std.proofs.lemmas.List.{get_or-set_same, length-set}
 use Rattle.std.proofs.lemmas.List.Elements.{All-append, All-from_recursion, All-get_or, All-set, recursion_from_All}
 use Rattle.std.proofs.lemmas.List.Sums.{fold_push}
 use Rattle.vector_clock.specs.declared.clock.Clock.{Clock}
 use Rattle.vector_clock.specs.declared.stamp.Stamp.{Stamp}
-use Rattle.vector_clock.specs.Clock.{IsAtMost, IsClock, count, join, with_entry, zero_clock, max_members, max_seq, max_entry}
+use Rattle.vector_clock.specs.Clock.{IsAtMost, IsClock, count, join, with_entry, zero_clock, max_members, max_seq}
 use Rattle.vector_clock.specs.Stamp.{is_below}
 use Rattle.vector_clock.proofs.Keys.{below_known, key_asym}
 use Rattle.crdt_laws.specs.declared.small.Entry.{Entry}
@@ -16,13 +16,14 @@ use Rattle.crdt_laws.specs.Entry.{entry}
 use Rattle.crdt_laws.specs.Tower.{IsStampOf, IsIssued, IsLawful, IsWithin, Meaning}
 use Rattle.crdt_laws.specs.Sets.{AreIssued, IsRising, place}
 use Rattle.crdt_laws.proofs.Filters.{all-append}
-use Rattle.vector_clock.proofs.Clocks.{length-clock_by}
+use Rattle.vector_clock.proofs.Bounds.{at_most_refl, at_most_trans, join_left, join_right, with_is_clock}
 use Rattle.crdt_laws.proofs.Place.{place_last}
 use Rattle.replica_model.specs.Replica.{Replica, edited, members, next_stamp, row, version}
 use Rattle.replica_core.specs.Kept.{AreKept, IsKept, IsKnown, IsReplicaUpTo, IsUpTo}
 use Rattle.replica_core.specs.Rows.{IsFrom}
 use Rattle.replica_core.proofs.Bounds.{replica_up_to}
-use Rattle.replica_core.proofs.Joins.{at_most-join_left, at_most-join_right, join_above}
+use Rattle.replica_core.proofs.Joins.{count-with, count-with_other, join_above, known-join, known_zero}
+use Rattle.replica_core.proofs.Steps.{known_clock}
 use Rattle.vector_clock.proofs.Ordered.{all_weaker}
 
 -- a clock with one operation more of a member
@@ -31,12 +32,10 @@ abbrev next : Clock → ℕ → Clock
 next k j = with_entry k j (count k j + 1)
 
 own_count : (n : ℕ) (k : Clock) (j : ℕ) → IsKnown n k → j < n → count (next k j) j ≡ count k j + 1
-own_count n k j h l =
-    let some : j < length k.at = omega (arith, h.clock.most, h.clock.wide, h.members) in
-    get_or-set_same k.at j (count k j + 1) 0 some
+own_count n k j h l = count-with n k j (count k j + 1) h l
 
 other_count : (k : Clock) (j i : ℕ) → (i ≡ j → ⊥) → count (next k j) i ≡ count k i
-other_count k j i h = get_or-set_other k.at j i (count k j + 1) 0 h
+other_count k j i h = count-with_other k j (count k j + 1) i h
 
 at_most-next : (n : ℕ) (k : Clock) (j : ℕ) → IsKnown n k → j < n → IsAtMost k (next k j)
 at_most-next n k j h l = record {
@@ -47,19 +46,7 @@ at_most-next n k j h l = record {
 }
 
 clock-next : (n : ℕ) (k : Clock) (j : ℕ) → IsKnown n k → j < n → IsClock (next k j)
-clock-next n k j h l = record {
-  some = h.clock.some;
-  most = h.clock.most;
-  wide = length-set k.at j (count k j + 1) ∙ h.clock.wide;
-  bounded = λ i. elim (cases_eq i j) [
-    | inl e ↦ (let o = own_count n k j h l in let w = h.within j in subst (λ m. count (next k j) m ≤ max_entry) (sym e) (omega arith))
-    | inr e ↦ (let o = other_count k j i e in let w = h.within i in omega arith)
-  ];
-  empty_past = λ i p. elim (cases_eq i j) [
-    | inl e ↦ (let one : k.n ≡ n = h.members in absurd (omega arith))
-    | inr e ↦ (let o = other_count k j i e in let w = h.clock.empty_past i p in omega arith)
-  ];
-}
+clock-next n k j h l = with_is_clock k j (count k j + 1) h.clock (omega (arith, h.members)) (omega (arith, h.within j))
 
 stamp-next : (n : ℕ) (k : Clock) (j : ℕ) → IsKnown n k → j < n → IsStampOf n (record { member = j; clock = next k j })
 stamp-next n k j h l = record {
@@ -95,14 +82,15 @@ room_for_next r s l rows own is k less u =
     subst IsWithin (sym is) (record { each = λ i. omega (arith, next_up.each i) })
 
 -- the version knows what its operations know
-fold_knows : {Op : Type 0} (n : ℕ) (xs : List (Entry Op)) (k : Clock) → length k.at ≡ max_members → AllByRecursion (IsFrom n) xs → IsAtMost k (fold (λ j e. join j e.stamp.clock) k xs) × AllByRecursion (λ d. IsAtMost d.stamp.clock (fold (λ j e. join j e.stamp.clock) k xs)) xs
-fold_knows n [] k wide all = (record { each = λ m. omega arith }, tt)
-fold_knows n (e ∷ xs) k wide all =
+fold_knows : {Op : Type 0} (n : ℕ) (xs : List (Entry Op)) (k : Clock) → IsKnown n k → AllByRecursion (IsFrom n) xs → IsAtMost k (fold (λ j e. join j e.stamp.clock) k xs) × AllByRecursion (λ d. IsAtMost d.stamp.clock (fold (λ j e. join j e.stamp.clock) k xs)) xs
+fold_knows n [] k known all = (at_most_refl k, tt)
+fold_knows n (e ∷ xs) k known all =
     let c = e.stamp.clock in
-    let broad : length c.at ≡ max_members = all.0.stamp.stamp.clock.wide in
-    let rest = fold_knows n xs (join k c) (length-clock_by k.n _) all.1 in (
-      record { each = λ m. omega (arith, (at_most-join_left k c wide).each m, rest.0.each m) },
-      (record { each = λ m. omega (arith, (at_most-join_right k c broad).each m, rest.0.each m) }, rest.1),
+    let come : IsKnown n c = known_clock n e all.0 in
+    let last = fold (λ j d. join j d.stamp.clock) (join k c) xs in
+    let rest = fold_knows n xs (join k c) (known-join n k c known come) all.1 in (
+      at_most_trans k (join k c) last (join_left k c known.clock) rest.0,
+      (at_most_trans c (join k c) last (join_right k c come.clock) rest.0, rest.1),
     )
 
 rising_push : {Op : Type 0} (x : Entry Op) (xs : List (Entry Op)) → AllByRecursion (λ d. is_below d.stamp x.stamp ≡ true) xs → IsRising xs → IsRising (xs ++ x ∷ [])
@@ -144,7 +132,7 @@ module _ {State Op : Type 0} (m : Meaning State Op) (law : IsLawful m) where
     known_latest = subst (IsKnown (members r)) h.own (All-get_or (IsKnown (members r)) r.known r.me (zero_clock 1) h.member h.rows)
 
     knows : AllByRecursion (λ d. IsAtMost d.stamp.clock latest) r.delivered
-    knows = (fold_knows (members r) r.delivered (zero_clock (members r)) refl (recursion_from_All (IsFrom (members r)) r.delivered (all_from (members r) r.delivered h.delivered.issued))).1
+    knows = (fold_knows (members r) r.delivered (zero_clock (members r)) (known_zero (members r) (omega (arith, h.member)) h.most) (recursion_from_All (IsFrom (members r)) r.delivered (all_from (members r) r.delivered h.delivered.issued))).1
 
     below : AllByRecursion (λ d. is_below d.stamp (next_stamp r) ≡ true) r.delivered
     below =

@@ -1,11 +1,10 @@
 -- A new replica, and the batch of an export.
-use Rattle.std.proofs.Common.{List, [], ◌≡◌, ℕ, ◌<◌, ◌≤◌, Bool, Option, ap, ap₂, ◌∙◌, refl, sym, inl, inr, arith, replicate}
-use Rattle.std.proofs.lemmas.Bool.{cases_lt}
-use Rattle.std.proofs.lemmas.List.{get_or-replicate, get_or_past, length-replicate}
+use Rattle.std.proofs.Common.{List, [], ◌≡◌, ℕ, ◌<◌, ◌≤◌, Bool, Option, ap, ap₂, ◌∙◌, sym, arith, replicate}
+use Rattle.std.proofs.lemmas.List.{get_or-replicate, length-replicate}
 use Rattle.std.specs.List.{filter}
 use Rattle.std.proofs.lemmas.List.Elements.{All-filter, All-get_or, All-replicate}
 use Rattle.vector_clock.specs.declared.clock.Clock.{Clock}
-use Rattle.vector_clock.specs.Clock.{count, zero_clock, max_members}
+use Rattle.vector_clock.specs.Clock.{zero_clock, max_members}
 use Rattle.crdt_laws.specs.declared.small.Entry.{Entry}
 use Rattle.crdt_laws.specs.Tower.{IsIssued, Meaning}
 use Rattle.crdt_laws.proofs.Filters.{rising-filter}
@@ -13,12 +12,7 @@ use Rattle.replica_model.specs.Replica.{Batch, Replica, exported, left_out, memb
 use Rattle.crdt_laws.specs.Sets.{beyond}
 use Rattle.replica_core.specs.Kept.{AreKept, IsBatchUpTo, IsKept, IsKeptBatch, IsKnown, IsReplicaUpTo, IsUpTo}
 use Rattle.replica_core.proofs.Edit.{kept_from}
-
-pub none_counted : (n j : ℕ) → count (zero_clock n) j ≡ 0
-none_counted n j = elim (cases_lt j max_members) [
-  | inl h ↦ get_or-replicate max_members j 0 0 h
-  | inr h ↦ get_or_past (replicate max_members 0) j 0 h
-]
+use Rattle.replica_core.proofs.Joins.{known_zero, none_counted}
 
 pub kept-filter : {State Op : Type 0} (m : Meaning State Op) (n : ℕ) (p : Entry Op → Bool) (xs : List (Entry Op)) → AreKept m n xs → AreKept m n (filter p xs)
 kept-filter m n p xs h = record { issued = All-filter p (λ e. IsIssued m n e.stamp e.op) xs h.issued; rising = rising-filter p xs h.rising }
@@ -50,15 +44,6 @@ up_to_sent r to k l u = record {
   header = All-get_or (IsUpTo k) r.known r.me (zero_clock 1) l u.rows;
   ops = All-filter _ (λ e. IsUpTo k e.stamp.clock) r.delivered u.delivered;
 }
-
-pub known_zero : (n : ℕ) → 1 ≤ n → n ≤ max_members → IsKnown n (zero_clock n)
-known_zero n some most =
-    let none : (j : ℕ) → count (zero_clock n) j ≡ 0 = none_counted n in
-    record {
-      clock = record { some = some; most = most; wide = refl; bounded = λ j. omega (arith, none j); empty_past = λ j _. none j };
-      members = refl;
-      within = λ j. omega (arith, none j);
-    }
 
 pub kept_new : {State Op : Type 0} (m : Meaning State Op) (doc : List ℕ) (me n : ℕ) → me < n → n ≤ max_members → IsKept m (new_replica doc me n)
 unfolding new_replica

@@ -9,7 +9,7 @@ use Rattle.std.proofs.lemmas.List.{get_or-set_other, get_or-set_same, length-set
 use Rattle.std.proofs.lemmas.List.Elements.{recursion_from_All}
 use Rattle.vector_clock.specs.declared.clock.Clock.{Clock}
 use Rattle.vector_clock.specs.declared.stamp.Stamp.{Stamp}
-use Rattle.vector_clock.specs.Clock.{IsAtMost, count, with_entry, zero_clock, max_members, max_seq}
+use Rattle.vector_clock.specs.Clock.{IsAtMost, count, with_entry, zero_clock, max_members}
 use Rattle.vector_clock.specs.Stamp.{is_before, is_below, same_id}
 use Rattle.vector_clock.proofs.Keys.{below_known, key_asym, key_irreflexive, same_id_from}
 use Rattle.crdt_laws.specs.declared.small.Entry.{Entry}
@@ -21,7 +21,7 @@ use Rattle.replica_core.specs.Frontier.{counted, frontier, is_at_most}
 use Rattle.vector_clock.proofs.Clocks.{at_most_below}
 use Rattle.replica_core.specs.Kept.{IsKnown}
 use Rattle.replica_core.specs.Rows.{IsFrom}
-use Rattle.replica_core.proofs.Export.{none_counted}
+use Rattle.replica_core.proofs.Joins.{known-with, none_counted}
 use Rattle.vector_clock.proofs.Ordered.{all_weaker}
 
 abbrev seq_of : {Op : Type 0} → Entry Op → ℕ
@@ -224,31 +224,8 @@ tells b k c wide h =
 -- a clock with the next operation of a member is known
 pub known-counted : {Op : Type 0} (n : ℕ) (k : Clock) (e : Entry Op) → IsKnown n k → IsFrom n e → IsKnown n (with_entry k e.stamp.member (seq_of e))
 known-counted n k e h from =
-    let j = e.stamp.member in
-    let low : j < n = (let a = from.stamp.stamp.member in let b = from.stamp.members in omega arith) in
-    let room : j < length k.at = omega (arith, h.clock.most, h.clock.wide, h.members) in
-    let c = with_entry k j (seq_of e) in
-    let own : count c j ≡ seq_of e = get_or-set_same k.at j (seq_of e) 0 room in
-    let other : (i : ℕ) → (i ≡ j → ⊥) → count c i ≡ count k i = λ i d. get_or-set_other k.at j i (seq_of e) 0 d in
-    let most : seq_of e ≤ max_seq = from.within.each j in
-    let all : (i : ℕ) → count c i ≤ max_seq = λ i. elim (cases_eq i j) [
-      | inl q ↦ subst (λ z. count c z ≤ max_seq) (sym q) (omega arith)
-      | inr q ↦ (let o = other i q in let w = h.within i in omega arith)
-    ] in
-    record {
-      clock = record {
-        some = h.clock.some;
-        most = h.clock.most;
-        wide = length-set k.at j (seq_of e) ∙ h.clock.wide;
-        bounded = λ i. omega (arith, all i);
-        empty_past = λ i p. elim (cases_eq i j) [
-          | inl q ↦ (let one : k.n ≡ n = h.members in absurd (omega arith))
-          | inr q ↦ (let o = other i q in let w = h.clock.empty_past i p in omega arith)
-        ];
-      };
-      members = h.members;
-      within = all;
-    }
+    let low : e.stamp.member < n = (let a = from.stamp.stamp.member in let b = from.stamp.members in omega arith) in
+    known-with n k e.stamp.member (seq_of e) h low (from.within.each e.stamp.member)
 
 pub counted_hit : {Op : Type 0} (k : Clock) (e : Entry Op) → seq_of e ≡ count k e.stamp.member + 1 → with_entry k e.stamp.member (seq_of e) ≡ counted k e
 counted_hit k e h = grind (arith, nat_tests)

@@ -16,9 +16,8 @@ use Rattle.replica_model.proofs.Merged.{length-heard, length-heard_header}
 use Rattle.replica_core.specs.Kept.{AreKept, IsBatchUpTo, IsKept, IsKeptBatch, IsKnown, IsReplicaUpTo, IsUpTo}
 use Rattle.replica_core.specs.Rows.{AreByKey, IsFrom, rows_after}
 use Rattle.replica_core.proofs.Edit.{all_from, kept_from}
-use Rattle.replica_core.proofs.Export.{known_zero, none_counted}
 use Rattle.replica_core.proofs.Gathered.{IsLess, all_less}
-use Rattle.replica_core.proofs.Joins.{fold-joins, known-join, up_to-join}
+use Rattle.replica_core.proofs.Joins.{fold-joins, known-join, known_zero, none_counted, up_to-join}
 use Rattle.replica_core.proofs.Steps.{known_clock, with_row_known}
 use Rattle.vector_clock.proofs.Ordered.{all_weaker}
 

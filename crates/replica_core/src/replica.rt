@@ -35,7 +35,8 @@ impl<T: Tower> Model for Replica<T> {
 impl<T: Tower> Replica<T> {
     ghost use Rattle.std.specs.Prelude.{◌≡◌, ℕ, ◌+◌, ◌-◌, ◌<◌, ◌≤◌, ◌++◌, length, IfOk, IfSome};
     ghost use Rattle.std.specs.List.{All};
-    ghost use Rattle.crdt_laws.specs.Tower.{IsStampOf, IsWithin, max_seq};
+    ghost use Rattle.vector_clock.specs.Clock.{max_seq};
+    ghost use Rattle.crdt_laws.specs.Tower.{IsStampOf, IsWithin};
     ghost use Rattle.crdt_laws.specs.Sets.{IsHonest};
     ghost use Rattle.replica_model.specs.Replica.{edited, exported, members, merged, new_replica, next_stamp, row, version};
     ghost use Rattle.replica_core.specs.Kept.{IsBatchUpTo, IsKept, IsKeptBatch, IsKnown, IsReplicaUpTo};

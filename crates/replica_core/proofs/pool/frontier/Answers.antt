@@ -7,9 +7,16 @@ use Rattle.replica_core.specs.Frontier.{counted}
 use Rattle.replica_core.specs.Kept.{IsKnown}
 use Rattle.replica_core.specs.Rows.{IsFrom}
 use Rattle.replica_core.proofs.Frontier.{counted_hit, counted_miss, known-counted}
+use Rattle.replica_core.proofs.Joins.{known_zero}
 use Rattle.replica_core.proofs.Steps.{fold_item}
 use Rattle.replica_core.proofs.pool.frontier.Goals as goal
 use Rattle.replica_core.proofs.pool.frontier.Goals.{then-id-count, else-id-count}
+
+pub loop-e-init : goal.loop-e-init
+loop-e-init g c = record {
+  frontier = c.zero-front.ensures.made;
+  known = subst (IsKnown c.args.n) (sym c.zero-front.ensures.made) (known_zero c.args.n c.requires.some c.requires.most);
+}
 
 pub loop-e-preserved : goal.loop-e-preserved
 loop-e-preserved g c =

@@ -3,9 +3,15 @@ use Rattle.vector_clock.specs.Clock.{join, zero_clock}
 use Rattle.crdt_laws.proofs.Loops.{item_of}
 use Rattle.replica_core.specs.Kept.{IsKnown}
 use Rattle.replica_core.specs.Rows.{IsFrom}
-use Rattle.replica_core.proofs.Joins.{known-join}
+use Rattle.replica_core.proofs.Joins.{known-join, known_zero}
 use Rattle.replica_core.proofs.Steps.{fold_item, known_clock}
 use Rattle.replica_core.proofs.rows.version.Goals as goal
+
+pub loop-e-init : goal.loop-e-init
+loop-e-init g c = record {
+  version = c.zero-known.ensures.made;
+  known = subst (IsKnown c.args.n) (sym c.zero-known.ensures.made) (known_zero c.args.n c.requires.some c.requires.most);
+}
 
 pub loop-e-preserved : goal.loop-e-preserved
 loop-e-preserved g c =
