@@ -1,6 +1,6 @@
 -- A ladder of however many values is a lawful tower.
 use Rattle.std.specs.Prelude.{◌≡◌, ℕ, ◌*◌, ◌<◌, ◌≤◌}
-use Rattle.std.proofs.Common.{refl, arith, inr}
+use Rattle.std.proofs.Common.{refl, arith}
 use Rattle.std.proofs.lemmas.Bool.Decides.{nat_tests}
 use Rattle.crdt_laws.specs.Tower.{IsLawful}
 use Rattle.crdt_laws.proofs.Plain.{plain_lawful}

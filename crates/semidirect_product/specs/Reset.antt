@@ -1,5 +1,4 @@
 -- A reset, which wins over all that it does not know of.
-use Rattle.std.specs.Prelude.{ℕ}
 use Rattle.crdt_laws.specs.Actor.{Action}
 use Rattle.crdt_laws.specs.Tower.{Meaning, IsWithin}
 use Rattle.semidirect_product.specs.declared.maybe.MaybeOp.{MaybeOp}
