@@ -46,10 +46,13 @@ pub(crate) fn apply_part<T: Tower>(
     ensures { IfOk result (λ ss. ss ≡ apply_at T.meaning parts.now states at stamp.now op.now) }
 {
     let List { mut items } = states;
-    let state = items.remove(at);
+    // The last state stands in for this one meanwhile, so that none behind it moves.
+    let state = items.swap_remove(at);
     let part = &parts[at];
     let next = part.apply(alloc, state, stamp, op)?;
-    items.insert(at, next)?;
+    let last = items.len();
+    items.push(next)?;
+    items.swap(at, last);
     Ok(List { items })
 }
 
@@ -64,14 +67,12 @@ pub(crate) fn settle_states<T: Tower>(
     requires good { good_all T.meaning k.now.n parts.now states }
     ensures { IfOk result (λ ss. ss ≡ settle_all T.meaning parts.now states k.now) }
 {
-    let List { mut items } = states;
-    for i in 0..parts.len() {
-        let state = items.remove(i);
-        let part = &parts[i];
-        let next = part.settle(alloc, state, k)?;
-        items.insert(i, next)?;
+    let List { items } = states;
+    let mut settled = List::new(alloc);
+    for (part, state) in parts.iter().zip(items) {
+        settled.push(part.settle(alloc, state, k)?)?;
     }
-    Ok(List { items })
+    Ok(settled)
 }
 
 /// A copy of each state. Whichever part copies a state, the copy is equal to it.
@@ -99,9 +100,7 @@ pub(crate) fn show_states<T: Tower>(
     ensures { IfOk result (λ v. view v ≡ (row_meaning T.meaning parts.now).show states.now) }
 {
     let mut values = Vec::new(alloc);
-    for i in 0..parts.len() {
-        let part = &parts[i];
-        let state = &states.items[i];
+    for (part, state) in parts.iter().zip(&states.items) {
         values.push(part.show(alloc, state)?)?;
     }
     Ok(Value::Array(values))

@@ -1,19 +1,13 @@
-use Rattle.std.proofs.Common.{◌≡◌, length, sym, ap, arith}
-use Rattle.direct_product.proofs.RowReads.{IsStateOf, valid_within, part_at, state_of, good_length}
+use Rattle.std.proofs.Common.{◌∙◌, sym, ap, arith}
+use Rattle.std.specs.List.{swap}
+use Rattle.direct_product.proofs.RowReads.{IsStateOf, has_state, part_at, state_of, valid_within}
+use Rattle.direct_product.proofs.Swaps.{swapped_back}
 use Rattle.direct_product.proofs.row_parts.apply_part.Goals as goal
 
-pub remove-state-requires : goal.remove-state-requires
-remove-state-requires g c =
-    let of = g.T.Tower.meaning in
-    let ts = c.args.parts.now in
-    let items : length c.states.inside.items.items ≡ length c.args.states = ap length c.states.view_is in
-    omega (
-      arith,
-      c.states.inside.items.ok.0,
-      items,
-      good_length of c.args.stamp.now.clock.n ts c.args.states c.requires.may.good,
-      valid_within of ts c.args.at c.args.stamp.now c.args.op.now c.requires.valid,
-    )
+pub swap_remove-state-requires : goal.swap_remove-state-requires
+swap_remove-state-requires g c =
+    let here = has_state g.T.Tower.meaning _ _ _ _ _ _ c.requires.may.good c.requires.valid c.states.inside.items.items c.states.view_is in
+    omega (arith, c.states.inside.items.ok.0)
 
 pub offset_bounds-parts-at : goal.offset_bounds-parts-at
 offset_bounds-parts-at g c = omega (arith, valid_within g.T.Tower.meaning c.args.parts.now c.args.at c.args.stamp.now c.args.op.now c.requires.valid)
@@ -23,10 +17,10 @@ bounds-parts-at g c = valid_within g.T.Tower.meaning c.args.parts.now c.args.at 
 
 -- what is known of the part's state
 state : (g : _) (c : goal.After-index-parts-at g)
-    → IsStateOf g.T.Tower.meaning c.args.stamp.now.clock.n c.args.parts.now c.args.states c.args.at c.args.stamp.now c.index-parts-at.result c.remove-state.result
+    → IsStateOf g.T.Tower.meaning c.args.stamp.now.clock.n c.args.parts.now c.args.states c.args.at c.args.stamp.now c.index-parts-at.result c.swap_remove-state.result
 state g c =
     state_of g.T.Tower.meaning _ _ _ _ _ _ _ (valid_within g.T.Tower.meaning c.args.parts.now c.args.at c.args.stamp.now c.args.op.now c.requires.valid)
-    c.requires.may c.index-parts-at.is (rw c.states.view_is at c.remove-state.ensures.value)
+    c.requires.may c.index-parts-at.is (rw c.states.view_is at c.swap_remove-state.ensures.value)
 
 pub apply-requires-clause-good : goal.apply-requires-clause-good
 apply-requires-clause-good g c = (state g c).good
@@ -42,9 +36,20 @@ apply-requires-clause-issued g c =
 pub apply-requires-clause-fresh : goal.apply-requires-clause-fresh
 apply-requires-clause-fresh g c = record { none = (state g c).fresh }
 
+pub swap-requires-clause-i_in_bounds : goal.swap-requires-clause-i_in_bounds
+swap-requires-clause-i_in_bounds g c =
+    let here = has_state g.T.Tower.meaning _ _ _ _ _ _ c.requires.may.good c.requires.valid c.states.inside.items.items c.states.view_is in
+    omega (arith, c.states.inside.items.ok.0, c.swap_remove-state.ensures.len, c.in_ok-push.ensures.len)
+
 pub returns : goal.returns
 returns g c =
     let within = valid_within g.T.Tower.meaning c.args.parts.now c.args.at c.args.stamp.now c.args.op.now c.requires.valid in
-    let s = state_of g.T.Tower.meaning c.args.stamp.now.clock.n c.args.parts.now c.args.states c.args.at c.args.stamp.now c.index-parts-at.result c.remove-state.result within
-    c.requires.may c.index-parts-at.is (rw c.states.view_is at c.remove-state.ensures.value) in
-    rw (c.in_ok-insert.ensures.items, c.remove-state.ensures.items, c.states.view_is, c.in_ok-next.ensures.ok) (s.applied c.args.op.now)
+    let s = state_of g.T.Tower.meaning c.args.stamp.now.clock.n c.args.parts.now c.args.states c.args.at c.args.stamp.now c.index-parts-at.result c.swap_remove-state.result within
+    c.requires.may c.index-parts-at.is (rw c.states.view_is at c.swap_remove-state.ensures.value) in
+    let ss = c.states.inside.items.items in
+    let here = has_state g.T.Tower.meaning _ _ _ _ _ _ c.requires.may.good c.requires.valid ss c.states.view_is in
+    c.swap.ensures.items
+    ∙ ap (λ l. swap l c.args.at c.len-last.result) c.in_ok-push.ensures.items
+    ∙ swapped_back c.in_ok-next.next ss c.args.at c.swap_remove-state.result here c.swap_remove-state.new.self.items c.swap_remove-state.ensures.items
+    c.len-last.result (omega (arith, c.states.inside.items.ok.0, c.swap_remove-state.ensures.len, c.len-last.ensures))
+    ∙ rw (c.states.view_is, c.in_ok-next.ensures.ok) (s.applied c.args.op.now)
