@@ -11,13 +11,12 @@ use Rattle.vector_clock.proofs.Keys.{same_id_other}
 use Rattle.crdt_laws.specs.declared.small.Entry.{Entry}
 use Rattle.crdt_laws.specs.Entry.{entry}
 use Rattle.crdt_laws.specs.Present.{apply_all}
-use Rattle.crdt_laws.specs.Sets.{AreApart, IsCausal, canonical, place}
+use Rattle.crdt_laws.specs.Sets.{AreApart, IsCausal, canonical, place, is_beyond}
 use Rattle.crdt_laws.specs.Tower.{Meaning}
 use Rattle.crdt_laws.proofs.Filters.{apart-filter}
 use Rattle.crdt_laws.proofs.Place.{place_swap, rising-canonical}
 use Rattle.crdt_laws.proofs.Seams.{apart_before, pairs_before}
-use Rattle.weave_core.specs.Deliver.{is_outside}
-use Rattle.weave_core.proofs.Placed.{filter-place, filter-place_in}
+use Rattle.vector_clock.proofs.Ordered.{filter-place, filter-place_in}
 use Rattle.reset_products.specs.declared.observed.ObservedOp.{ObservedOp}
 use Rattle.reset_products.specs.declared.observed.ObservedOp.TheVariants.{Do, Reset}
 use Rattle.reset_products.specs.Observed.{Logged, observed_apply, observed_meaning}
@@ -34,8 +33,8 @@ canonical-filter : {Op : Type 0} (p : Entry Op → Bool) (l : List (Entry Op)) �
 canonical-filter p [] d = refl
 canonical-filter {Op} p (y ∷ l) d =
     (elim (p y) as (λ b. p y ≡ b → canonical (cond b (y ∷ filter p l) (filter p l)) ≡ filter p (place y (canonical l))) [
-      | true ↦ λ e. ap (place y) (canonical-filter p l d.1) ∙ sym (filter-place_in p y e (canonical l) (rising-canonical l d.1))
-      | false ↦ λ e. canonical-filter p l d.1 ∙ sym (filter-place p y e (canonical l))
+      | true ↦ λ e. ap (place y) (canonical-filter p l d.1) ∙ sym (filter-place_in (λ e. e.stamp) p y e (canonical l) (rising-canonical l d.1))
+      | false ↦ λ e. canonical-filter p l d.1 ∙ sym (filter-place (λ e. e.stamp) p y e (canonical l))
     ]) refl
 
 -- what a stamp is not before, and which is another, does not know of it
@@ -127,7 +126,7 @@ module _ {O : Type 0} where
       and_true true = refl
       and_true false = refl
 
-  unforgotten-reset : (ds : List (Entry (ObservedOp O))) (p : Stamp) → unforgotten (ds ++ entry p Reset ∷ []) ≡ filter (is_outside p.clock) (unforgotten ds)
+  unforgotten-reset : (ds : List (Entry (ObservedOp O))) (p : Stamp) → unforgotten (ds ++ entry p Reset ∷ []) ≡ filter (is_beyond p.clock) (unforgotten ds)
   unforgotten-reset ds p =
       let e : Entry (ObservedOp O) = entry p Reset in
       let new : Entry (ObservedOp O) → Bool = λ y. is_left (ds ++ e ∷ []) y.stamp in
@@ -178,7 +177,7 @@ module _ {S O : Type 0} (m : Meaning S O) where
       (all-operations (λ q. same_id q p ≡ false) (filter (λ y. is_left ds y.stamp) ds) (all-filter (λ (y : Entry (ObservedOp O)). same_id y.stamp p ≡ false) (λ y. is_left ds y.stamp) ds d))))
   one_more ds p Reset a d b =
       ap (λ l. record { base = m.init; log = l })
-      (sym (ap canonical (unforgotten-reset ds p) ∙ canonical-filter (is_outside p.clock) (unforgotten ds) (unforgotten_apart ds a)))
+      (sym (ap canonical (unforgotten-reset ds p) ∙ canonical-filter (is_beyond p.clock) (unforgotten ds) (unforgotten_apart ds a)))
 
   left_after : (ds xs : List (Entry (ObservedOp O))) → AreApart (ds ++ xs) → IsCausal (ds ++ xs) → apply_all (observed_meaning m) (left_state ds) xs ≡ left_state (ds ++ xs)
   left_after ds [] a c = ap left_state (sym (append-nil ds))

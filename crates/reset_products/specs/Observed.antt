@@ -1,16 +1,14 @@
 -- What an observed tower means: a base, and a log of operations since. A reset forgets what it knew of, and nothing else.
-use Rattle.std.specs.Prelude.{◌≡◌, ℕ, List, [], take, drop, IsTrue, false}
-use Rattle.std.specs.List.{All, Contains, filter}
+use Rattle.std.specs.Prelude.{◌≡◌, ℕ, List, [], take, drop, false}
+use Rattle.std.specs.List.{All, Contains}
 use Rattle.vector_clock.specs.declared.clock.Clock.{Clock}
 use Rattle.vector_clock.specs.declared.stamp.Stamp.{Stamp}
-use Rattle.vector_clock.specs.Clock.{IsAtMost, covers}
-use Rattle.vector_clock.specs.Stamp.{id_of}
+use Rattle.vector_clock.specs.Stamp.{IsKnownTo}
 use Rattle.crdt_laws.specs.declared.small.Entry.{Entry}
 use Rattle.crdt_laws.specs.Entry.{entry}
 use Rattle.crdt_laws.specs.Present.{document_from}
-use Rattle.crdt_laws.specs.Sets.{AreApart, AreIssued, IsRising, place}
+use Rattle.crdt_laws.specs.Sets.{AreApart, AreIssued, IsRising, beyond, place}
 use Rattle.crdt_laws.specs.Tower.{Meaning, IsWithin}
-use Rattle.weave_core.specs.Deliver.{is_outside}
 use Rattle.reset_products.specs.Cut.{clean_cut}
 use Rattle.reset_products.specs.declared.observed.ObservedOp.{ObservedOp}
 use Rattle.reset_products.specs.declared.observed.ObservedOp.TheVariants.{Do, Reset}
@@ -40,8 +38,7 @@ module _ {S O : Type 0} (m : Meaning S O) where
     pub issued : AreIssued m d.n s.log
     pub rising : IsRising s.log
     pub apart : AreApart s.log
-    pub covered : All (λ e. IsTrue (covers d (id_of e.stamp))) s.log
-    pub known : All (λ e. IsAtMost e.stamp.clock d) s.log
+    pub known : All (λ e. IsKnownTo d e.stamp) s.log
 
   abbrev pub observed_well_formed : ObservedOp O → Type 0
   observed_well_formed (Do x) = m.well_formed x
@@ -55,7 +52,7 @@ module _ {S O : Type 0} (m : Meaning S O) where
   -- An operation takes its place in the log. A reset takes all out of the log that its clock covers, and gives the first base.
   abbrev pub observed_apply : Logged S O → Stamp → ObservedOp O → Logged S O
   observed_apply s p (Do x) = record { base = s.base; log = place (entry p x) s.log }
-  observed_apply s p Reset = record { base = m.init; log = filter (is_outside p.clock) s.log }
+  observed_apply s p Reset = record { base = m.init; log = beyond p.clock s.log }
 
   -- the document of the log, from the base
   abbrev pub value_of : Logged S O → S

@@ -8,20 +8,19 @@ use Rattle.vector_clock.specs.declared.clock.Clock.{Clock}
 use Rattle.vector_clock.specs.declared.clock.Id.{Id}
 use Rattle.vector_clock.specs.declared.stamp.Stamp.{Stamp}
 use Rattle.vector_clock.specs.Clock.{IsAtMost, covers}
-use Rattle.vector_clock.specs.Stamp.{IsAfter, are_concurrent, id_of, is_before, same_id}
+use Rattle.vector_clock.specs.Stamp.{IsAfter, IsKnownTo, are_concurrent, id_of, is_before, same_id}
 use Rattle.vector_clock.proofs.Causal.{covers_past}
 use Rattle.vector_clock.proofs.Bounds.{at_most_refl, at_most_trans}
 use Rattle.vector_clock.proofs.Keys.{concurrent_other, concurrent_sym, covered_known, covers_more, ids_other}
 use Rattle.crdt_laws.specs.declared.small.Entry.{Entry}
 use Rattle.crdt_laws.specs.Entry.{entry}
 use Rattle.crdt_laws.specs.Present.{document_from}
-use Rattle.crdt_laws.specs.Sets.{AreIssued, place}
+use Rattle.crdt_laws.specs.Sets.{AreIssued, place, is_beyond}
 use Rattle.crdt_laws.specs.Tower.{Meaning, IsLawful, IsIssued, IsWithin, Lacks, Agrees, MaySwap}
 use Rattle.crdt_laws.proofs.Filters.{all-place, all_pass, apart-filter, rising-filter}
 use Rattle.crdt_laws.proofs.Members.{at_member, each}
 use Rattle.crdt_laws.proofs.Place.{place_swap, rising-place}
-use Rattle.weave_core.specs.Deliver.{is_outside}
-use Rattle.weave_core.proofs.Placed.{all_drop, all_take, apart-drop, apart-place, filter-place_in, filter_none, filter_swap, rising-drop}
+use Rattle.weave_core.proofs.Placed.{all_drop, all_take, apart-drop, filter_none, filter_swap, rising-drop}
 use Rattle.weave_core.proofs.Runs
 use Rattle.weave_core.proofs.Split.{AreBefore, document_from-append}
 use Rattle.reset_products.specs.declared.observed.ObservedOp.{ObservedOp}
@@ -29,7 +28,7 @@ use Rattle.reset_products.specs.declared.observed.ObservedOp.TheVariants.{Do, Re
 use Rattle.reset_products.specs.Cut.{clean_cut}
 use Rattle.reset_products.specs.CutLaws.{AreWithin, IsClean, cut_clean, cut_none, left-place, left_twice, settled-place, settled_twice}
 use Rattle.reset_products.specs.Observed.{IsGoodLog, IsGoodLogAt, IsLoggedAs, Logged, folded, observed_apply, observed_meaning, observed_settle, observed_valid, observed_well_formed, value_of}
-use Rattle.vector_clock.proofs.Ordered.{all-filter, all_weaker}
+use Rattle.vector_clock.proofs.Ordered.{all-filter, all_weaker, apart-place, filter-place_in}
 
 -- the stamps of a log
 
@@ -41,38 +40,38 @@ of_logged {O} P log h p i = subst P i.stamp (at_member (λ (e : Entry O). P e.st
 
 -- a log and a reset
 
-outside_true : {O : Type 0} (k : Clock) (e : Entry O) → covers k (id_of e.stamp) ≡ false → is_outside k e ≡ true
-outside_true k e h = ap not h
+beyond_true : {O : Type 0} (k : Clock) (e : Entry O) → covers k (id_of e.stamp) ≡ false → is_beyond k e ≡ true
+beyond_true k e h = ap not h
 
-outside_false : {O : Type 0} (k : Clock) (e : Entry O) → covers k (id_of e.stamp) ≡ true → is_outside k e ≡ false
-outside_false k e h = ap not h
+beyond_false : {O : Type 0} (k : Clock) (e : Entry O) → covers k (id_of e.stamp) ≡ true → is_beyond k e ≡ false
+beyond_false k e h = ap not h
 
-outside_not : {O : Type 0} (k : Clock) (e : Entry O) → is_outside k e ≡ true → covers k (id_of e.stamp) ≡ false
-outside_not k e h = grind arith
+beyond_not : {O : Type 0} (k : Clock) (e : Entry O) → is_beyond k e ≡ true → covers k (id_of e.stamp) ≡ false
+beyond_not k e h = grind arith
 
--- what is concurrent to a reset is outside what the reset knew
-concurrent_outside : {O : Type 0} (p q : Stamp) (x : O) → are_concurrent p q ≡ true → is_outside q.clock (entry p x) ≡ true
-concurrent_outside p q x c = outside_true q.clock (entry p x) (covered_known q.clock p q (at_most_refl q.clock) c)
+-- what is concurrent to a reset is beyond what the reset knew
+concurrent_beyond : {O : Type 0} (p q : Stamp) (x : O) → are_concurrent p q ≡ true → is_beyond q.clock (entry p x) ≡ true
+concurrent_beyond p q x c = beyond_true q.clock (entry p x) (covered_known q.clock p q (at_most_refl q.clock) c)
 
 logged_with : {S O : Type 0} (b c : S) (l n : List (Entry O)) → b ≡ c → l ≡ n → (let a : Logged S O = record { base = b; log = l } in let d : Logged S O = record { base = c; log = n } in a ≡ d)
 logged_with b c l n e f = ap₂ (λ (x : _) (y : List (Entry _)). record { base = x; log = y }) e f
 
 -- what a reset takes out, behind a prefix that it knew
 reset_behind : {O : Type 0} (k : Clock) (p : Stamp) (c : ℕ) (log : List (Entry O)) → IsAtMost k p.clock → AllByRecursion (λ e. covers k (id_of e.stamp) ≡ true) (take c log)
-    → filter (is_outside p.clock) log ≡ filter (is_outside p.clock) (drop c log)
+    → filter (is_beyond p.clock) log ≡ filter (is_beyond p.clock) (drop c log)
 reset_behind {O} k p c log m h =
-    let gone : filter (is_outside p.clock) (take c log) ≡ [] =
-    filter_none (is_outside p.clock) (take c log)
-    (all_weaker (λ (e : Entry O). covers k (id_of e.stamp) ≡ true) (λ e. is_outside p.clock e ≡ false) (λ e g. outside_false p.clock e (covers_past k p.clock e.stamp m g)) (take c log) h) in
-    ap (filter (is_outside p.clock)) (sym (take-append-drop c log))
-    ∙ filter-append (is_outside p.clock) (take c log) (drop c log)
-    ∙ ap (λ l. l ++ filter (is_outside p.clock) (drop c log)) gone
+    let gone : filter (is_beyond p.clock) (take c log) ≡ [] =
+    filter_none (is_beyond p.clock) (take c log)
+    (all_weaker (λ (e : Entry O). covers k (id_of e.stamp) ≡ true) (λ e. is_beyond p.clock e ≡ false) (λ e g. beyond_false p.clock e (covers_past k p.clock e.stamp m g)) (take c log) h) in
+    ap (filter (is_beyond p.clock)) (sym (take-append-drop c log))
+    ∙ filter-append (is_beyond p.clock) (take c log) (drop c log)
+    ∙ ap (λ l. l ++ filter (is_beyond p.clock) (drop c log)) gone
 
 -- what a reset leaves is not covered by what it knew of
-left_uncovered : {O : Type 0} (k : Clock) (p : Stamp) (log : List (Entry O)) → IsAtMost k p.clock → AllByRecursion (λ e. covers k (id_of e.stamp) ≡ false) (filter (is_outside p.clock) log)
+left_uncovered : {O : Type 0} (k : Clock) (p : Stamp) (log : List (Entry O)) → IsAtMost k p.clock → AllByRecursion (λ e. covers k (id_of e.stamp) ≡ false) (filter (is_beyond p.clock) log)
 left_uncovered {O} k p log m =
-    all_weaker (λ (e : Entry O). is_outside p.clock e ≡ true) (λ e. covers k (id_of e.stamp) ≡ false) (λ e h. covers_more k p.clock e.stamp m (outside_not p.clock e h))
-    (filter (is_outside p.clock) log) (all_pass (is_outside p.clock) log)
+    all_weaker (λ (e : Entry O). is_beyond p.clock e ≡ true) (λ e. covers k (id_of e.stamp) ≡ false) (λ e h. covers_more k p.clock e.stamp m (beyond_not p.clock e h))
+    (filter (is_beyond p.clock) log) (all_pass (is_beyond p.clock) log)
 
 clean_covered : {O : Type 0} (k : Clock) (xs ys : List (Entry O)) → IsClean k xs ys → AllByRecursion (λ e. covers k (id_of e.stamp) ≡ true) xs
 clean_covered {O} k xs ys h = all_weaker (λ (x : Entry O). (covers k (id_of x.stamp) ≡ true) × AllByRecursion (λ (y : Entry O). is_before x.stamp y.stamp ≡ true) ys) (λ x. covers k (id_of x.stamp) ≡ true) (λ x e. e.0) xs h
@@ -106,11 +105,11 @@ module _ {S O : Type 0} (m : Meaning S O) where
   commute n s p q (Do x) (Do y) w =
       ap (λ l. record { base = s.base; log = l }) (sym (place_swap (entry p x) (entry q y) (concurrent_other p q w.concurrent) s.log))
   commute n s p q (Do x) Reset w =
-      ap (λ l. record { base = m.init; log = l }) (filter-place_in (is_outside q.clock) (entry p x) (concurrent_outside p q x w.concurrent) s.log w.good.rising)
+      ap (λ l. record { base = m.init; log = l }) (filter-place_in (λ (e : Entry O). e.stamp) (is_beyond q.clock) (entry p x) (concurrent_beyond p q x w.concurrent) s.log w.good.rising)
   commute n s p q Reset (Do y) w =
-      ap (λ l. record { base = m.init; log = l }) (sym (filter-place_in (is_outside p.clock) (entry q y) (concurrent_outside q p y (concurrent_sym p q w.concurrent)) s.log w.good.rising))
+      ap (λ l. record { base = m.init; log = l }) (sym (filter-place_in (λ (e : Entry O). e.stamp) (is_beyond p.clock) (entry q y) (concurrent_beyond q p y (concurrent_sym p q w.concurrent)) s.log w.good.rising))
   commute n s p q Reset Reset w =
-      ap (λ l. record { base = m.init; log = l }) (filter_swap (is_outside q.clock) (is_outside p.clock) s.log)
+      ap (λ l. record { base = m.init; log = l }) (filter_swap (is_beyond q.clock) (is_beyond p.clock) s.log)
 
   settle-apply : (n : ℕ) (s : Logged S O) (k : Clock) (p : Stamp) (x : ObservedOp O) → Agrees (observed_meaning m) s k → IsAfter k p
       → observed_settle m (observed_apply m s p x) k ≡ observed_apply m (observed_settle m s k) p x
@@ -118,7 +117,7 @@ module _ {S O : Type 0} (m : Meaning S O) where
       let w = log_within s k agree in
       logged_with _ _ _ _ (ap (document_from m s.base) (settled-place k (entry p x) after s.log w)) (left-place k (entry p x) after s.log w)
   settle-apply n s k p Reset agree after =
-      let l = filter (is_outside p.clock) s.log in
+      let l = filter (is_beyond p.clock) s.log in
       let c = clean_cut s.log k in
       ap (folded m (record { base = m.init; log = l })) (cut_none k l (left_uncovered k p s.log after.knows))
       ∙ ap (λ z. record { base = m.init; log = z }) (reset_behind k p c s.log after.knows (clean_covered k (take c s.log) (drop c s.log) (cut_clean s.log k)))
@@ -140,7 +139,7 @@ module _ {S O : Type 0} (m : Meaning S O) where
       of_logged P (place (entry p x) s.log)
       (all-place (λ (e : Entry O). P e.stamp) (entry p x) (inl refl) s.log (all_weaker (λ (e : Entry O). IsLoggedAs s.log e.stamp) (λ e. P e.stamp) (λ e i. inr i) s.log (each_logged s.log))) q h
   holds-apply s p Reset q h =
-      inr (of_logged (IsLoggedAs s.log) (filter (is_outside p.clock) s.log) (all-filter (λ (e : Entry O). IsLoggedAs s.log e.stamp) (is_outside p.clock) s.log (each_logged s.log)) q h)
+      inr (of_logged (IsLoggedAs s.log) (filter (is_beyond p.clock) s.log) (all-filter (λ (e : Entry O). IsLoggedAs s.log e.stamp) (is_beyond p.clock) s.log (each_logged s.log)) q h)
 
   holds-settle : (s : Logged S O) (k : Clock) (q : Stamp) → IsLoggedAs (observed_settle m s k).log q → IsLoggedAs s.log q
   holds-settle s k q h =
@@ -152,8 +151,8 @@ module _ {S O : Type 0} (m : Meaning S O) where
 
 -- a property of each operation, for the contracts and for proofs
 
-filtered : {O : Type 0} (P : Entry O → Type 0) (k : Clock) (l : List (Entry O)) → All P l → All P (filter (is_outside k) l)
-filtered P k l h = All-from_recursion P (filter (is_outside k) l) (all-filter P (is_outside k) l (recursion_from_All P l h))
+filtered : {O : Type 0} (P : Entry O → Type 0) (k : Clock) (l : List (Entry O)) → All P l → All P (filter (is_beyond k) l)
+filtered P k l h = All-from_recursion P (filter (is_beyond k) l) (all-filter P (is_beyond k) l (recursion_from_All P l h))
 
 placed : {O : Type 0} (P : Entry O → Type 0) (x : Entry O) (l : List (Entry O)) → P x → All P l → All P (place x l)
 placed P x l p h = All-from_recursion P (place x l) (all-place P x p l (recursion_from_All P l h))
@@ -191,13 +190,13 @@ module _ {S O : Type 0} (m : Meaning S O) (law : IsLawful m) (plain : IsTrue m.p
         base = h.base;
         issued = placed (λ (e : Entry O). IsIssued m n e.stamp e.op) (entry p x) s.log (do_issued m n p x v) h.issued;
         rising = rising-place (entry p x) s.log d h.rising;
-        apart = apart-place (entry p x) s.log d h.apart;
+        apart = apart-place (λ (e : Entry O). e.stamp) (entry p x) s.log d h.apart;
       }
   good-apply n s p Reset h v fresh = record {
     base = law.good-init n;
     issued = filtered (λ (e : Entry O). IsIssued m n e.stamp e.op) p.clock s.log h.issued;
-    rising = rising-filter (is_outside p.clock) s.log h.rising;
-    apart = apart-filter (is_outside p.clock) s.log h.apart;
+    rising = rising-filter (is_beyond p.clock) s.log h.rising;
+    apart = apart-filter (is_beyond p.clock) s.log h.apart;
   }
 
   good-settle : (n : ℕ) (s : Logged S O) (k : Clock) → IsGoodLog m n s → IsGoodLog m n (observed_settle m s k)
@@ -214,18 +213,17 @@ module _ {S O : Type 0} (m : Meaning S O) (law : IsLawful m) (plain : IsTrue m.p
   good_at_good : (d : Clock) (s : Logged S O) → IsGoodLogAt m d s → IsGoodLog m d.n s
   good_at_good d s h = record { base = law.good_at_good d s.base h.base; issued = h.issued; rising = h.rising; apart = h.apart }
 
+  abbrev Known : Clock → Entry O → Type 0
+  Known d e = IsKnownTo d e.stamp
+
   good_at_later : (d e : Clock) (s : Logged S O) → d.n ≡ e.n → IsAtMost d e → IsGoodLogAt m d s → IsGoodLogAt m e s
   good_at_later d e s n later h = record {
     base = law.good_at_later d e s.base n later h.base;
     issued = subst (λ i. AreIssued m i s.log) n h.issued;
     rising = h.rising;
     apart = h.apart;
-    covered = more (λ (x : Entry O). covers d (id_of x.stamp) ≡ true) (λ x. covers e (id_of x.stamp) ≡ true) (λ x c. covers_past d e x.stamp later c) h.covered;
-    known = more (λ (x : Entry O). IsAtMost x.stamp.clock d) (λ x. IsAtMost x.stamp.clock e) (λ x c. at_most_trans x.stamp.clock d e c later) h.known;
+    known = All-from_recursion (Known e) s.log (all_weaker (Known d) (Known e) (λ x k. record { covered = covers_past d e x.stamp later k.covered; known = at_most_trans x.stamp.clock d e k.known later }) s.log (recursion_from_All (Known d) s.log h.known));
   }
-    where
-      more : (P Q : Entry O → Type 0) → ((x : Entry O) → P x → Q x) → All P s.log → All Q s.log
-      more P Q f a = All-from_recursion Q s.log (all_weaker P Q f s.log (recursion_from_All P s.log a))
 
   good_at-apply : (d : Clock) (s : Logged S O) (p : Stamp) (x : ObservedOp O) → IsGoodLogAt m d s → IsIssued (observed_meaning m) d.n p x → Lacks (observed_meaning m) s (id_of p)
       → IsAtMost p.clock d → IsTrue (covers d (id_of p)) → IsGoodLogAt m d (observed_apply m s p x)
@@ -235,45 +233,36 @@ module _ {S O : Type 0} (m : Meaning S O) (law : IsLawful m) (plain : IsTrue m.p
         base = h.base;
         issued = placed (λ (e : Entry O). IsIssued m d.n e.stamp e.op) (entry p x) s.log (do_issued m d.n p x v) h.issued;
         rising = rising-place (entry p x) s.log a h.rising;
-        apart = apart-place (entry p x) s.log a h.apart;
-        covered = placed (λ (e : Entry O). covers d (id_of e.stamp) ≡ true) (entry p x) s.log covered h.covered;
-        known = placed (λ (e : Entry O). IsAtMost e.stamp.clock d) (entry p x) s.log below h.known;
+        apart = apart-place (λ (e : Entry O). e.stamp) (entry p x) s.log a h.apart;
+        known = placed (Known d) (entry p x) s.log (record { covered = covered; known = below }) h.known;
       }
   good_at-apply d s p Reset h v fresh below covered = record {
     base = law.good_at-init d;
     issued = filtered (λ (e : Entry O). IsIssued m d.n e.stamp e.op) p.clock s.log h.issued;
-    rising = rising-filter (is_outside p.clock) s.log h.rising;
-    apart = apart-filter (is_outside p.clock) s.log h.apart;
-    covered = filtered (λ (e : Entry O). covers d (id_of e.stamp) ≡ true) p.clock s.log h.covered;
-    known = filtered (λ (e : Entry O). IsAtMost e.stamp.clock d) p.clock s.log h.known;
+    rising = rising-filter (is_beyond p.clock) s.log h.rising;
+    apart = apart-filter (is_beyond p.clock) s.log h.apart;
+    known = filtered (Known d) p.clock s.log h.known;
   }
 
-  document_good_at : (d : Clock) (s : S) (xs : List (Entry O)) → m.good_at d s → AllByRecursion (λ e. IsIssued m d.n e.stamp e.op) xs
-      → AllByRecursion (λ e. covers d (id_of e.stamp) ≡ true) xs → AllByRecursion (λ e. IsAtMost e.stamp.clock d) xs → m.good_at d (document_from m s xs)
-  document_good_at d s xs g v c b =
-      Runs.document_keeps m d.n law (m.good_at d) Q (λ t p x h i q. law.good_at-apply d t p x h i (nothing_held t (id_of p)) q.1 q.0) s xs v (both xs c b) g
-    where
-      Q : Stamp → Type 0
-      Q p = (covers d (id_of p) ≡ true) × IsAtMost p.clock d
-
-      both : (l : List (Entry O)) → AllByRecursion (λ e. covers d (id_of e.stamp) ≡ true) l → AllByRecursion (λ e. IsAtMost e.stamp.clock d) l → AllByRecursion (λ e. (covers d (id_of e.stamp) ≡ true) × IsAtMost e.stamp.clock d) l
-      both [] c b = tt
-      both (e ∷ l) c b = ((c.0, b.0), both l c.1 b.1)
+  document_good_at : (d : Clock) (s : S) (xs : List (Entry O)) → m.good_at d s → AllByRecursion (λ e. IsIssued m d.n e.stamp e.op) xs → AllByRecursion (Known d) xs → m.good_at d (document_from m s xs)
+  document_good_at d s xs g v k =
+      Runs.document_keeps m d.n law (m.good_at d) (IsKnownTo d) (λ t p x h i q. law.good_at-apply d t p x h i (nothing_held t (id_of p)) q.known q.covered) s xs v k g
 
   good_at-settle : (d : Clock) (s : Logged S O) (k : Clock) → IsGoodLogAt m d s → IsGoodLogAt m d (observed_settle m s k)
   good_at-settle d s k h =
       let c = clean_cut s.log k in
       let I : Entry O → Type 0 = λ e. IsIssued m d.n e.stamp e.op in
-      let C : Entry O → Type 0 = λ e. covers d (id_of e.stamp) ≡ true in
-      let B : Entry O → Type 0 = λ e. IsAtMost e.stamp.clock d in
       record {
-        base = document_good_at d s.base (take c s.log) h.base (first_ones I c s.log h.issued) (first_ones C c s.log h.covered) (first_ones B c s.log h.known);
+        base = document_good_at d s.base (take c s.log) h.base (first_ones I c s.log h.issued) (first_ones (Known d) c s.log h.known);
         issued = All-drop I c s.log h.issued;
         rising = rising-drop c s.log h.rising;
         apart = apart-drop c s.log h.apart;
-        covered = All-drop C c s.log h.covered;
-        known = All-drop B c s.log h.known;
+        known = All-drop (Known d) c s.log h.known;
       }
+
+  -- the clock knows each operation of the log, and the base holds no stamp
+  good_at-holds : (d : Clock) (s : Logged S O) (p : Stamp) → IsGoodLogAt m d s → IsLoggedAs s.log p → IsKnownTo d p
+  good_at-holds d s p h i = of_logged (IsKnownTo d) s.log (recursion_from_All (Known d) s.log h.known) p i
 
   none_yet : (P : Entry O → Type 0) → All P []
   none_yet P = All-from_recursion P [] tt
@@ -305,12 +294,12 @@ module _ {S O : Type 0} (m : Meaning S O) (law : IsLawful m) (plain : IsTrue m.p
       issued = none_yet (λ (e : Entry O). IsIssued m d.n e.stamp e.op);
       rising = tt;
       apart = tt;
-      covered = none_yet (λ (e : Entry O). covers d (id_of e.stamp) ≡ true);
-      known = none_yet (λ (e : Entry O). IsAtMost e.stamp.clock d);
+      known = none_yet (Known d);
     };
     good_at_later = good_at_later;
     good_at-apply = good_at-apply;
     good_at-settle = good_at-settle;
+    good_at-holds = good_at-holds;
     holds-init = holds-init m;
     holds-apply = holds-apply m;
     holds-settle = holds-settle m;

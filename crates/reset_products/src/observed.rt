@@ -1,12 +1,12 @@
 ghost use Rattle.std.specs.Prelude.{◌≡◌, IsTrue, IfOk};
 
 use crate::cut::clean_cut;
-use crdt_laws::{NoMemory, Ops, Tower, is_within};
+use crdt_laws::{NoMemory, Ops, Tower, beyond, is_within, place_in};
 use serde_json::Value;
 use std::alloc::Global;
 use std::marker::Model;
 use vector_clock::{Clock, Stamp};
-use weave_core::{fold_plain, outside, place_in};
+use weave_core::fold_plain;
 
 /// An operation of an observed tower.
 #[derive(Debug, PartialEq, Eq, Drop)]
@@ -126,7 +126,7 @@ impl<T: Tower> Tower for Observed<T> {
             }
             ObservedOp::Reset => {
                 let base = self.part.init(alloc)?;
-                let log = outside(alloc, log, &stamp.clock)?;
+                let log = beyond(log, &stamp.clock);
                 Ok(ObservedState { base, log })
             }
         }

@@ -12,7 +12,7 @@ use super::*;
 use crdt_laws::{Entry, List, NoMemory, Ops, Tower, Txt};
 use list_crdt::{Position, Step, Text, TextOp};
 use map_crdt::{KeyOp, Keyed};
-use number_crdts::{Add, Number, number};
+use number_crdts::{Number, NumberOp, number};
 use semidirect_product::{MaybeOp, StackOp};
 use std::alloc::Global;
 use std::test::Fail;
@@ -173,12 +173,12 @@ fn number_of(
     tower: &Observed<Number>,
     state: &ObservedState<Number>,
 ) -> Result<u64, NoMemory>
-    requires { IsGoodLog (stack_meaning add_meaning mul_action) 2 state.now }
+    requires { IsGoodLog (stack_meaning (add_meaning 0) (mul_action 0)) 2 state.now }
 {
     tower.value(alloc, state)
 }
 
-fn adds(n: u64) -> ObservedOp<StackOp<u64, u64>> {
+fn adds(n: u64) -> ObservedOp<NumberOp> {
     ObservedOp::Do(StackOp::Low(n))
 }
 
@@ -221,8 +221,8 @@ fn folds_from_a_state(rt: HostRuntime) -> Result<(), Fail> {
     Ok(())
 }
 
-fn folded_from(alloc: Global, from: u64, ops: &Ops<StackOp<u64, u64>>) -> Result<u64, NoMemory>
-    requires issued { AreIssued (stack_meaning add_meaning mul_action) 2 ops.now }
+fn folded_from(alloc: Global, from: u64, ops: &Ops<NumberOp>) -> Result<u64, NoMemory>
+    requires issued { AreIssued (stack_meaning (add_meaning 0) (mul_action 0)) 2 ops.now }
     requires rising { IsRising ops.now }
     requires apart { AreApart ops.now }
 {
@@ -233,9 +233,9 @@ fn folded_from(alloc: Global, from: u64, ops: &Ops<StackOp<u64, u64>>) -> Result
 #[test]
 fn cuts_before_what_is_concurrent(rt: HostRuntime) -> Result<(), Fail> {
     let alloc = rt.alloc();
-    let ops = with_next(&Add, Ops::new(alloc), first_at(1, 0), 1)?;
-    let ops = with_next(&Add, ops, first_at(2, 0), 2)?;
-    let ops = with_next(&Add, ops, second_at(1, 1), 3)?;
+    let ops = with_next(&number(), Ops::new(alloc), first_at(1, 0), StackOp::Low(1))?;
+    let ops = with_next(&number(), ops, first_at(2, 0), StackOp::Low(2))?;
+    let ops = with_next(&number(), ops, second_at(1, 1), StackOp::Low(3))?;
     for (first, second, length) in [(0, 0, 0), (1, 0, 1), (2, 0, 1), (1, 1, 1), (2, 1, 3)] {
         let cut = clean_cut(&ops, &clock_of(first, second));
         assert_eq!(rt; cut, length, "{first} {second}");
@@ -248,7 +248,7 @@ fn adds_at(
     alloc: Global,
     key: &str,
     n: u64,
-) -> Result<ObservedOp<KeyOp<StackOp<u64, u64>>>, NoMemory> {
+) -> Result<ObservedOp<KeyOp<NumberOp>>, NoMemory> {
     let key = Txt {
         items: Vec::from_slice(alloc, key.as_bytes())?,
     };
