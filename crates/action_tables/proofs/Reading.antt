@@ -85,7 +85,7 @@ step_length None q xs n h e = absurd (cc)
 step_length (Some x) None xs n h e = absurd (cc)
 step_length (Some x) (Some ys) xs n h e = let same : x ∷ ys ≡ xs = cc in omega (arith, ap length same, h ys refl)
 
-each_length : {A : Type 0} (f : Data → Option A) (ds : List Data) (xs : List A) → each_of f ds ≡ Some xs
+pub each_length : {A : Type 0} (f : Data → Option A) (ds : List Data) (xs : List A) → each_of f ds ≡ Some xs
     → length xs ≡ length ds
 each_length f [] xs e = let same : [] ≡ xs = cc in omega (arith, ap length same)
 each_length f (d ∷ ds) xs e =

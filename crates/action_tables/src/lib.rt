@@ -10,7 +10,9 @@ mod tower;
 mod written;
 
 pub use lawful::LawfulTable;
-pub use laws::{one_fault, one_reading, one_verdict, order_of_cases, table_is_lawful};
+pub use laws::{
+    form_of_tables, one_fault, one_reading, one_verdict, order_of_cases, table_is_lawful,
+};
 pub use named::{NamedTable, TableFault, is_name, named_table};
 pub use table::{Shape, Table, Verdict};
 pub use tower::TableTower;

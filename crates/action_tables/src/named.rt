@@ -8,6 +8,8 @@ use crate::written::{WrittenOp, WrittenTable, read_table};
 use crdt_laws::{Bytes, List, Names, NoMemory, Txt};
 use serde_json::{Category, Value};
 use std::alloc::Global;
+use std::fmt;
+use thiserror::Error;
 
 /// A table with the names of its states and operations, each at its number.
 #[derive(Debug, Drop)]
@@ -18,7 +20,7 @@ pub struct NamedTable {
 }
 
 /// Why a text is no table, in the order in which it is looked at.
-#[derive(Clone, Copy, Debug, PartialEq, Eq)]
+#[derive(Clone, Copy, Debug, PartialEq, Eq, Error)]
 pub enum TableFault {
     /// The text is no JSON.
     NotJson,
@@ -42,6 +44,24 @@ impl From<NoMemory> for TableFault {
 
     fn from(_error: NoMemory) -> TableFault {
         TableFault::NoMemory
+    }
+}
+
+impl fmt::Display for TableFault {
+    ghost use Rattle.std.specs.Prelude.{Some};
+    ghost use Rattle.action_tables.specs.FaultText.{fault_text};
+
+    ghost output = { λ fault. Some (fault_text fault) };
+
+    fn fmt<W: fmt::Write>(&self, f: &mut fmt::Formatter<W>) -> fmt::Result {
+        match self {
+            TableFault::NotJson => write!(f, "not-json"),
+            TableFault::Form => write!(f, "form"),
+            TableFault::Name => write!(f, "name"),
+            TableFault::Twice => write!(f, "twice"),
+            TableFault::Shape(shape) => write!(f, "{shape}"),
+            TableFault::NoMemory => write!(f, "no-memory"),
+        }
     }
 }
 
@@ -179,7 +199,8 @@ fn name_table(alloc: Global, written: WrittenTable) -> Result<NamedTable, TableF
 /// at most 255 states, and `ops` at most 255 operations, each an object with exactly the keys `act`, `level`, `name` and `next`:
 /// `next` has for each state the one to which the operation leads, and `act` for each operation what that one becomes when this
 /// one acts on it. All numbers are whole, of 0 to 255. Of a key that stands twice the last value stays. What is wrong with a text
-/// that gives no table is looked at in the order of `TableFault`.
+/// that gives no table is looked at in the order of `TableFault`. That each text spells a table or has such a fault, and never
+/// both, is the law [`one_reading`](crate::one_reading); the form is [`form_of_tables`](crate::form_of_tables).
 pub fn named_table(alloc: Global, text: &[u8]) -> Result<NamedTable, TableFault>
     ensures accepts { IfOk result (λ t. Spells text.now t.table t.states t.ops) }
     ensures refuses { IfErr result (HasTextFault text.now) }

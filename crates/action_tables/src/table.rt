@@ -1,10 +1,12 @@
 ghost use Rattle.std.specs.Prelude.{◌≡◌, ◌<◌, ◌≤◌, ◌↔◌, length, IsTrue, MatchOption};
 ghost use Rattle.action_tables.specs.Table.{HasSizes, table_of, EachBelow, IsOutside, IsFirstOutside};
 
+use std::fmt;
 use std::marker::Model;
+use thiserror::Error;
 
 /// What is at fault with the parts of a table.
-#[derive(Clone, Copy, Debug, PartialEq, Eq)]
+#[derive(Clone, Copy, Debug, PartialEq, Eq, Error)]
 pub enum Shape {
     /// The number of states or of operations is not 1 to 32, the first state is none of the states, or a list has not its
     /// length.
@@ -16,6 +18,21 @@ pub enum Shape {
         /// The first such place. The places of `act` count on from those of `next`.
         at: u32,
     },
+}
+
+impl fmt::Display for Shape {
+    ghost use Rattle.std.specs.Prelude.{Some};
+    ghost use Rattle.action_tables.specs.FaultText.{shape_text};
+
+    ghost output = { λ shape. Some (shape_text shape) };
+
+    fn fmt<W: fmt::Write>(&self, f: &mut fmt::Formatter<W>) -> fmt::Result {
+        match self {
+            Shape::Size => write!(f, "size"),
+            Shape::Level => write!(f, "level"),
+            Shape::Entry { at } => write!(f, "entry {at}"),
+        }
+    }
 }
 
 /// What the checker says of a table. The laws are these, with their cases (a, b, c), where x, y, v and z are operations and s is

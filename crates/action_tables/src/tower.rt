@@ -1,3 +1,5 @@
+ghost use Rattle.std.specs.Prelude.{◌≡◌, IfOk, IsOk};
+
 use crate::lawful::LawfulTable;
 use crdt_laws::{NoMemory, Tower, is_within};
 use serde_json::Value;
@@ -65,7 +67,10 @@ impl Tower for TableTower {
         Ok(state)
     }
 
-    fn copy_op(&self, _alloc: Global, op: &u8) -> Result<u8, NoMemory> {
+    fn copy_op(&self, _alloc: Global, op: &u8) -> Result<u8, NoMemory>
+        ensures same { IfOk result (λ copy. copy ≡ op.now) }
+        ensures always { IsOk result }
+    {
         Ok(*op)
     }
 
@@ -73,7 +78,10 @@ impl Tower for TableTower {
         *a == *b
     }
 
-    fn copy_state(&self, _alloc: Global, state: &u8) -> Result<u8, NoMemory> {
+    fn copy_state(&self, _alloc: Global, state: &u8) -> Result<u8, NoMemory>
+        ensures same { IfOk result (λ copy. copy ≡ state.now) }
+        ensures always { IsOk result }
+    {
         Ok(*state)
     }
 
