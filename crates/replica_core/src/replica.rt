@@ -20,7 +20,7 @@ pub struct Replica<T: Tower> {
     pub delivered: Ops<T::Op>,
     /// The operations that wait for others which they knew of, by key.
     pub waiting: Ops<T::Op>,
-    /// For each of the 1 to 64 members, what it is known to have: of the own member, all that is in.
+    /// For each member of the document, what it is known to have: of the own member, all that is in.
     pub known: List<Clock>,
 }
 
