@@ -22,8 +22,8 @@ use Rattle.crdt_laws.specs.Sets.{IsHonest}
 use Rattle.std.proofs.Common.{◌++◌}
 use Rattle.lab_model.proofs.Runs.{meets_at}
 use Rattle.lab_model.specs.Honest.{IsHonestLab, things}
-use Rattle.replica_cmd.specs.Number.{number_meaning, NumberOp}
 use Rattle.replica_cmd.specs.Things.{IsKeptLab, IsKeptThing, IsLabUpTo, IsPlaceOf, IsThingUpTo, Keeps, replica_or}
+use Rattle.number_crdts.specs.Number.{number_meaning, NumberOp}
 
 module _ (P : Thing NumberOp → Type 0) where
   Each : Lab NumberOp → Type 0
@@ -105,7 +105,7 @@ unfolding new_replica
 members-new doc me n = length-replicate n _
 
 -- the next stamp is within the limit while there is room for one operation more
-pub next_within : (r : Replica NumberOp) (k : ℕ) → IsKept number_meaning r → IsReplicaUpTo k r → k < max_seq → IsWithin (next_stamp r)
+pub next_within : (r : Replica NumberOp) (k : ℕ) → IsKept (number_meaning 0) r → IsReplicaUpTo k r → k < max_seq → IsWithin (next_stamp r)
 next_within r k kept up room =
     let v = version (members r) r.delivered in
     let own : IsUpTo k v = subst (IsUpTo k) kept.own (up.rows r.me (zero_clock 1) kept.member) in
@@ -132,5 +132,5 @@ pub back_in_place : (before mid after : Lab NumberOp) (place : ℕ) (name file :
 back_in_place before mid after place name file t e gap is = is ∙ ap (λ n. insert mid place (n, t)) e ∙ gap.back t
 
 -- what a replica and a batch of an honest lab have is an honest set
-pub honest_pool : (lab : Lab NumberOp) (file name : List ℕ) (r : Replica NumberOp) (b : Batch NumberOp) → IsHonestLab number_meaning lab → thing_at lab file ≡ Some (family.replica r) → thing_at lab name ≡ Some (family.batch b) → IsHonest ((r.delivered ++ r.waiting) ++ b.ops)
-honest_pool lab file name r b honest here there = (meets_at number_meaning lab honest file name r b here there).honest
+pub honest_pool : (lab : Lab NumberOp) (file name : List ℕ) (r : Replica NumberOp) (b : Batch NumberOp) → IsHonestLab (number_meaning 0) lab → thing_at lab file ≡ Some (family.replica r) → thing_at lab name ≡ Some (family.batch b) → IsHonest ((r.delivered ++ r.waiting) ++ b.ops)
+honest_pool lab file name r b honest here there = (meets_at (number_meaning 0) lab honest file name r b here there).honest

@@ -7,9 +7,9 @@ use Rattle.std.specs.Str.{bytes_eq}
 use Rattle.std.proofs.lemmas.List.Quantifiers.{position-Some}
 use Rattle.replica_model.specs.Family.{Thing}
 use Rattle.lab_model.specs.Lab.{thing_at, with_thing}
-use Rattle.replica_cmd.specs.Number.{NumberOp}
 use Rattle.replica_cmd.specs.declared.things.Named.{Named}
 use Rattle.replica_cmd.specs.Things.{lab_of, pair_of, thing_of}
+use Rattle.number_crdts.specs.Number.{NumberOp}
 
 -- the name stands at this place, and at none before it
 pub record IsAt (name : List ℕ) (items : List Named) (i : ℕ) (d : Named) : Type 0 where

@@ -15,10 +15,11 @@ use Rattle.lab_store.specs.Stream.{Appends, AppendsPart}
 use Rattle.lab_model.specs.Honest.{AreFair, IsHonestLab, MakesValid}
 use Rattle.lab_model.specs.Lab.{Lab, lab_run, lab_step, pair_members}
 use Rattle.lab_model.proofs.Runs as model
-use Rattle.replica_cmd.specs.Number.{number_meaning, number_op, NumberOp}
+use Rattle.replica_cmd.specs.Number.{number_op}
 use Rattle.replica_cmd.specs.Run.{is_bad, run_refused, run_text, AreFairLines, ArePlayed, IsEnded, PutsTexts}
 use Rattle.replica_cmd.specs.Steps.{outcome, Steps}
 use Rattle.vector_clock.specs.Clock.{max_seq}
+use Rattle.number_crdts.specs.Number.{number_meaning, NumberOp}
 
 -- ---- what is put
 
@@ -87,18 +88,18 @@ one_more count start told after refused r text old put ended refusal =
 
 -- The lines so far led from nothing to this lab and put their texts. What is left leads on to the run of all.
 pub record Follows (lines rest : List (List ℕ)) (k : ℕ) (lab : Lab NumberOp) (start told : Option (List ℕ)) (refused : Bool) : Type 0 where
-  pub keeps : model.Keeps number_meaning k lab
-  pub fair : AreFair number_meaning number_op lab rest
+  pub keeps : model.Keeps (number_meaning 0) k lab
+  pub fair : AreFair (number_meaning 0) number_op lab rest
   pub done : List ℕ
   pub put : Appends start told done
-  pub text : done ++ (lab_run number_meaning number_op lab rest).text ≡ run_text lines
-  pub refusals : (refused || (lab_run number_meaning number_op lab rest).refused) ≡ run_refused lines
-  pub last : (lab_run number_meaning number_op lab rest).lab ≡ (lab_run number_meaning number_op [] lines).lab
+  pub text : done ++ (lab_run (number_meaning 0) number_op lab rest).text ≡ run_text lines
+  pub refusals : (refused || (lab_run (number_meaning 0) number_op lab rest).refused) ≡ run_refused lines
+  pub last : (lab_run (number_meaning 0) number_op lab rest).lab ≡ (lab_run (number_meaning 0) number_op [] lines).lab
 
-valid_ops : (v : Verb) (x : ℕ) → x < 2 ^ 64 → (p : Stamp) → IsStampOf pair_members p → IsWithin p → number_meaning.valid p (number_op v x)
+valid_ops : (v : Verb) (x : ℕ) → x < 2 ^ 64 → (p : Stamp) → IsStampOf pair_members p → IsWithin p → (number_meaning 0).valid p (number_op v x)
 valid_ops v x h p s w = valid_op p (number_op v x) w (word_op v x h)
 
-makes_valid : MakesValid number_meaning number_op
+makes_valid : MakesValid (number_meaning 0) number_op
 makes_valid = record { each = λ v x p h s w. valid_ops v x h p s w }
 
 or_move : (a b c : Bool) → ((a || b) || c) ≡ (a || (b || c))
@@ -107,7 +108,7 @@ or_move false b c = refl
 
 pub follows_start : (lines : List (List ℕ)) (told : Option (List ℕ)) → AreFairLines lines → Follows lines lines 0 [] told told false
 follows_start lines told fair = record {
-  keeps = model.run_from_empty number_meaning number_op makes_valid [] tt (omega arith);
+  keeps = model.run_from_empty (number_meaning 0) number_op makes_valid [] tt (omega arith);
   fair = fair;
   done = [];
   put = nothing_put told;
@@ -119,22 +120,22 @@ follows_start lines told fair = record {
 pub follows_next : (lines : List (List ℕ)) (line : List ℕ) (rest : List (List ℕ)) (k : ℕ) (lab after : Lab NumberOp) (start told told' : Option (List ℕ)) (refused r : Bool) (text : List ℕ)
     → k + 1 ≤ max_seq → Follows lines (line ∷ rest) k lab start told refused → Steps lab after line text r → Appends told told' text → Follows lines rest (k + 1) after start told' (refused || r)
 follows_next lines line rest k lab after start told told' refused r text room old steps put =
-    let step = lab_step number_meaning number_op lab line in
+    let step = lab_step (number_meaning 0) number_op lab line in
     let e : outcome after text r ≡ step = steps.exact old.keeps.honest in
     let to_lab : after ≡ step.lab = ap (λ o. o.lab) e in
     let to_text : text ≡ step.text = ap (λ o. o.text) e in
     let to_refused : r ≡ step.refused = ap (λ o. o.refused) e in
-    let goes = model.step_goes number_meaning number_op valid_ops k room lab old.keeps line old.fair.0 in
-    let same : (lab_run number_meaning number_op after rest) ≡ (lab_run number_meaning number_op step.lab rest) = ap (λ l. lab_run number_meaning number_op l rest) to_lab in
+    let goes = model.step_goes (number_meaning 0) number_op valid_ops k room lab old.keeps line old.fair.0 in
+    let same : (lab_run (number_meaning 0) number_op after rest) ≡ (lab_run (number_meaning 0) number_op step.lab rest) = ap (λ l. lab_run (number_meaning 0) number_op l rest) to_lab in
     record {
-      keeps = subst (model.Keeps number_meaning (k + 1)) (sym to_lab) goes;
-      fair = subst (λ l. AreFair number_meaning number_op l rest) (sym to_lab) old.fair.1;
+      keeps = subst (model.Keeps (number_meaning 0) (k + 1)) (sym to_lab) goes;
+      fair = subst (λ l. AreFair (number_meaning 0) number_op l rest) (sym to_lab) old.fair.1;
       done = old.done ++ text;
       put = then_put start told told' old.done text old.put put;
       text =
-          append_assoc old.done text (lab_run number_meaning number_op after rest).text
+          append_assoc old.done text (lab_run (number_meaning 0) number_op after rest).text
           ∙ ap₂ (λ a b. old.done ++ (a ++ b)) to_text (ap (λ o. o.text) same) ∙ old.text;
-      refusals = or_move refused r (lab_run number_meaning number_op after rest).refused ∙ ap₂ (λ a b. refused || (a || b)) to_refused (ap (λ o. o.refused) same) ∙ old.refusals;
+      refusals = or_move refused r (lab_run (number_meaning 0) number_op after rest).refused ∙ ap₂ (λ a b. refused || (a || b)) to_refused (ap (λ o. o.refused) same) ∙ old.refusals;
       last = ap (λ o. o.lab) same ∙ old.last;
     }
 
@@ -143,7 +144,7 @@ pub follows_end : (lines : List (List ℕ)) (k : ℕ) (lab : Lab NumberOp) (star
 follows_end lines k lab start told refused old = record {
   text = subst (Appends start told) (sym (append-nil old.done) ∙ old.text) old.put;
   refusals = or_false refused ∙ old.refusals;
-  honest = subst (IsHonestLab number_meaning) old.last old.keeps.honest;
+  honest = subst (IsHonestLab (number_meaning 0)) old.last old.keeps.honest;
 }
   where
     or_false : (b : Bool) → b ≡ (b || false)
@@ -152,16 +153,16 @@ follows_end lines k lab start told refused old = record {
 
 -- the sink failed at a line, or it ran out of memory
 pub follows_part : (lines : List (List ℕ)) (line : List ℕ) (rest : List (List ℕ)) (k : ℕ) (lab : Lab NumberOp) (start told after : Option (List ℕ)) (refused : Bool)
-    → Follows lines (line ∷ rest) k lab start told refused → (IsHonestLab number_meaning lab → AppendsPart told after (lab_step number_meaning number_op lab line).text)
+    → Follows lines (line ∷ rest) k lab start told refused → (IsHonestLab (number_meaning 0) lab → AppendsPart told after (lab_step (number_meaning 0) number_op lab line).text)
     → AppendsPart start after (run_text lines)
 follows_part lines line rest k lab start told after refused old part =
     subst (AppendsPart start after) old.text
-    (part_put start told after old.done (lab_step number_meaning number_op lab line).text (lab_run number_meaning number_op (lab_step number_meaning number_op lab line).lab rest).text old.put (part old.keeps.honest))
+    (part_put start told after old.done (lab_step (number_meaning 0) number_op lab line).text (lab_run (number_meaning 0) number_op (lab_step (number_meaning 0) number_op lab line).lab rest).text old.put (part old.keeps.honest))
 
 pub follows_none : (lines rest : List (List ℕ)) (k : ℕ) (lab : Lab NumberOp) (start told after : Option (List ℕ)) (refused : Bool)
     → Follows lines rest k lab start told refused → after ≡ told → AppendsPart start after (run_text lines)
 follows_none lines rest k lab start told after refused old e =
-    subst (AppendsPart start after) old.text (none_put start told after old.done (lab_run number_meaning number_op lab rest).text old.put e)
+    subst (AppendsPart start after) old.text (none_put start told after old.done (lab_run (number_meaning 0) number_op lab rest).text old.put e)
 
 -- the line at an index, and the lines after it
 cut_line : (xs : List (Bor (List ℕ))) (i : ℕ) (d : Bor (List ℕ)) → i < length xs

@@ -10,12 +10,13 @@ use Rattle.lab_model.specs.Lab.{Lab, act_on, effect, lab_step, outcome_of}
 use Rattle.lab_model.specs.Line.{command_of}
 use Rattle.lab_model.specs.Text.{ended, refusal_text, refused_text}
 use Rattle.lab_model.proofs.Commands.{IsReadable, command_readable}
-use Rattle.replica_cmd.specs.Number.{number_meaning, number_op, NumberOp}
+use Rattle.replica_cmd.specs.Number.{number_op}
 use Rattle.replica_cmd.specs.declared.things.Hindrance.{Hindrance}
 use Rattle.replica_cmd.specs.Run.{is_bad, IsAccepted}
 use Rattle.replica_cmd.specs.Steps.{outcome, HasMember, Steps}
 use Rattle.replica_cmd.specs.Things.{IsKeptLab, IsLabUpTo, Keeps}
 use Rattle.replica_cmd.proofs.KeptLab.{lab_up_to_more}
+use Rattle.number_crdts.specs.Number.{number_meaning, NumberOp}
 
 pub accepted_from : (text front : List ℕ) → text ≡ ended front → is_bad (ended front) ≡ false → IsAccepted text
 accepted_from text front e h = record { ended = (front, e); accepted = ap is_bad e ∙ h }
@@ -46,19 +47,19 @@ has_member (Check table) h = tt
 pub member_of_line : (line : List ℕ) (command : Command) → command_of line ≡ Some command → HasMember command
 member_of_line line command e = has_member command (subst IsReadable e (command_readable line))
 
-pub step_ok : (before after : Lab NumberOp) (line text : List ℕ) → act_on number_meaning number_op before (command_of line) ≡ Ok (effect after text)
-    → outcome after text false ≡ lab_step number_meaning number_op before line
+pub step_ok : (before after : Lab NumberOp) (line text : List ℕ) → act_on (number_meaning 0) number_op before (command_of line) ≡ Ok (effect after text)
+    → outcome after text false ≡ lab_step (number_meaning 0) number_op before line
 unfolding lab_step
-step_ok before after line text e = sym (ap (outcome_of number_meaning number_op before) e)
+step_ok before after line text e = sym (ap (outcome_of (number_meaning 0) number_op before) e)
 
-pub step_refused : (before : Lab NumberOp) (line : List ℕ) (cause : Refusal) → act_on number_meaning number_op before (command_of line) ≡ Err cause
-    → outcome before (refused_text cause) true ≡ lab_step number_meaning number_op before line
+pub step_refused : (before : Lab NumberOp) (line : List ℕ) (cause : Refusal) → act_on (number_meaning 0) number_op before (command_of line) ≡ Err cause
+    → outcome before (refused_text cause) true ≡ lab_step (number_meaning 0) number_op before line
 unfolding lab_step
-step_refused before line cause e = sym (ap (outcome_of number_meaning number_op before) e)
+step_refused before line cause e = sym (ap (outcome_of (number_meaning 0) number_op before) e)
 
 -- a refused line changes nothing
 pub refused_step : (before after : Lab NumberOp) (line text : List ℕ) (cause : Refusal) → text ≡ refused_text cause → after ≡ before
-    → (IsHonestLab number_meaning before → act_on number_meaning number_op before (command_of line) ≡ Err cause) → IsKeptLab before
+    → (IsHonestLab (number_meaning 0) before → act_on (number_meaning 0) number_op before (command_of line) ≡ Err cause) → IsKeptLab before
     → Steps before after line text true
 refused_step before after line text cause told same done kept = record {
   exact = λ honest. ap₂ (λ l t. outcome l t true) same told ∙ step_refused before line cause (done honest);

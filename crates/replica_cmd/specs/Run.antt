@@ -10,9 +10,10 @@ use Rattle.lab_model.specs.declared.command.Command.{Command}
 use Rattle.lab_model.specs.declared.command.Command.TheVariants.{New, Edit, Show, Export, Merge, Play, Check}
 use Rattle.lab_model.specs.Text.{refused_text}
 use Rattle.lab_model.specs.declared.refusal.Refusal.TheVariants.{Unbuilt}
-use Rattle.replica_cmd.specs.Number.{number_meaning, number_op}
+use Rattle.replica_cmd.specs.Number.{number_op}
 use Rattle.replica_cmd.specs.Check.{PutsFinding, PutsPart}
 use Rattle.replica_cmd.specs.Reading.{most_bytes, most_file_bytes}
+use Rattle.number_crdts.specs.Number.{number_meaning}
 
 -- a text is that of a refusal, or says that a table is broken
 abbrev pub is_bad : List ℕ → Bool
@@ -46,21 +47,21 @@ pub record PutsTexts (count : ℕ) (before after : Option (List ℕ)) (bad : Boo
 
 -- the text of lines that are run from nothing, and whether one of them is refused
 abbrev pub run_text : List (List ℕ) → List ℕ
-run_text lines = (lab_run number_meaning number_op [] lines).text
+run_text lines = (lab_run (number_meaning 0) number_op [] lines).text
 
 abbrev pub run_refused : List (List ℕ) → Bool
-run_refused lines = (lab_run number_meaning number_op [] lines).refused
+run_refused lines = (lab_run (number_meaning 0) number_op [] lines).refused
 
 -- the lines make no second replica of a member
 abbrev pub AreFairLines : List (List ℕ) → Type 0
-AreFairLines lines = AreFair number_meaning number_op [] lines
+AreFairLines lines = AreFair (number_meaning 0) number_op [] lines
 
 -- The lines were run: they put the text that the definition gives, and leave an honest lab, so that what each replica has
 -- delivered is causally closed.
 pub record ArePlayed (lines : List (List ℕ)) (before after : Option (List ℕ)) (refused : Bool) : Type 0 where
   pub text : Appends before after (run_text lines)
   pub refusals : refused ≡ run_refused lines
-  pub honest : IsHonestLab number_meaning (lab_run number_meaning number_op [] lines).lab
+  pub honest : IsHonestLab (number_meaning 0) (lab_run (number_meaning 0) number_op [] lines).lab
 
 -- the two ways in which a call ends that has run all of its lines
 abbrev pub Ends : ℕ → Type 0

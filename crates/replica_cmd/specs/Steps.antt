@@ -5,9 +5,10 @@ use Rattle.lab_model.specs.declared.command.Command.{Command}
 use Rattle.lab_model.specs.declared.command.Command.TheVariants.{New, Edit, Show, Export, Merge, Play, Check}
 use Rattle.lab_model.specs.Honest.{IsHonestLab}
 use Rattle.lab_model.specs.Lab.{Lab, Outcome, lab_step, pair_members}
-use Rattle.replica_cmd.specs.Number.{number_meaning, number_op, NumberOp}
+use Rattle.replica_cmd.specs.Number.{number_op}
 use Rattle.replica_cmd.specs.Run.{is_bad, IsEnded}
 use Rattle.replica_cmd.specs.Things.{IsKeptLab, IsLabUpTo}
+use Rattle.number_crdts.specs.Number.{number_meaning, NumberOp}
 
 -- the member of a command is one of the document
 abbrev pub HasMember : Command → Type 0
@@ -19,12 +20,12 @@ HasMember (Merge file batch) = Unit {0}
 HasMember Play = Unit {0}
 HasMember (Check table) = Unit {0}
 
-abbrev pub outcome : Lab NumberOp → List ℕ → Bool → Outcome number_meaning number_op
+abbrev pub outcome : Lab NumberOp → List ℕ → Bool → Outcome (number_meaning 0) number_op
 outcome lab text refused = record { lab = lab; text = text; refused = refused }
 
 -- A line took a lab to another one and printed a text. From an honest lab it is the step of the definition.
 pub record Steps (before after : Lab NumberOp) (line text : List ℕ) (refused : Bool) : Type 0 where
-  pub exact : IsHonestLab number_meaning before → outcome after text refused ≡ lab_step number_meaning number_op before line
+  pub exact : IsHonestLab (number_meaning 0) before → outcome after text refused ≡ lab_step (number_meaning 0) number_op before line
   pub ended : IsEnded text
   pub bad : is_bad text ≡ refused
   pub kept : IsKeptLab after

@@ -10,12 +10,12 @@ use Rattle.lab_model.specs.declared.refusal.Refusal.{Refusal}
 use Rattle.lab_model.specs.declared.refusal.Refusal.TheVariants.{Unbuilt, Missing}
 use Rattle.lab_model.specs.Lab.{Lab, Effect, effect, pair_members, with_thing}
 use Rattle.lab_model.specs.Honest.{things}
-use Rattle.replica_cmd.specs.Number.{number_meaning, NumberOp}
 use Rattle.replica_cmd.specs.declared.lab.Lab as lab
 use Rattle.replica_cmd.specs.declared.things.Named as named
 use Rattle.replica_cmd.specs.declared.things.Thing as thing
 use Rattle.replica_cmd.specs.declared.things.Hindrance.{Hindrance}
 use Rattle.replica_cmd.specs.declared.things.Hindrance.TheVariants.{Refused, NoMemory}
+use Rattle.number_crdts.specs.Number.{number_meaning, NumberOp}
 
 abbrev pub thing_of : thing.Thing → Thing NumberOp
 thing_of (thing.TheVariants.Replica r) = family.replica r
@@ -49,8 +49,8 @@ Answers (Err NoMemory) after done = Unit {0}
 
 -- what every thing keeps, whoever made its operations
 abbrev pub IsKeptThing : Thing NumberOp → Type 0
-IsKeptThing (family.replica r) = IsKept number_meaning r × (members r ≡ pair_members)
-IsKeptThing (family.batch b) = IsKeptBatch number_meaning pair_members b
+IsKeptThing (family.replica r) = IsKept (number_meaning 0) r × (members r ≡ pair_members)
+IsKeptThing (family.batch b) = IsKeptBatch (number_meaning 0) pair_members b
 
 abbrev pub IsKeptLab : Lab NumberOp → Type 0
 IsKeptLab lab = All IsKeptThing (things lab)

@@ -42,7 +42,8 @@ impl Lab {
     ghost use Rattle.lab_model.specs.Honest.{IsHonestLab};
     ghost use Rattle.lab_model.specs.Lab.{act, act_on};
     ghost use Rattle.lab_model.specs.Line.{command_of};
-    ghost use Rattle.replica_cmd.specs.Number.{number_meaning, number_op};
+    ghost use Rattle.number_crdts.specs.Number.{number_meaning};
+    ghost use Rattle.replica_cmd.specs.Number.{number_op};
     ghost use Rattle.replica_cmd.specs.Run.{IsAccepted};
     ghost use Rattle.replica_cmd.specs.Steps.{HasMember, Steps};
     ghost use Rattle.replica_cmd.specs.Things.{contents, most_made, Answers, IsKeptLab, IsLabUpTo, Keeps};
@@ -52,7 +53,7 @@ impl Lab {
         requires member { HasMember command }
         requires kept { IsKeptLab (contents self.old) }
         requires room { IsLabUpTo most_made (contents self.old) }
-        ensures answers { IsHonestLab number_meaning (contents self.old) → Answers result (contents self.new) (act number_meaning number_op (contents self.old) command) }
+        ensures answers { IsHonestLab (number_meaning 0) (contents self.old) → Answers result (contents self.new) (act (number_meaning 0) number_op (contents self.old) command) }
         ensures keeps { Keeps (contents self.old) (contents self.new) result }
         ensures said { IfOk result (λ text. IsAccepted (string_bytes text)) }
     {
@@ -70,7 +71,7 @@ impl Lab {
     fn attempt(&mut self, alloc: Global, line: &[u8]) -> Result<String, Hindrance>
         requires kept { IsKeptLab (contents self.old) }
         requires room { IsLabUpTo most_made (contents self.old) }
-        ensures answers { IsHonestLab number_meaning (contents self.old) → Answers result (contents self.new) (act_on number_meaning number_op (contents self.old) (command_of line.now)) }
+        ensures answers { IsHonestLab (number_meaning 0) (contents self.old) → Answers result (contents self.new) (act_on (number_meaning 0) number_op (contents self.old) (command_of line.now)) }
         ensures keeps { Keeps (contents self.old) (contents self.new) result }
         ensures said { IfOk result (λ text. IsAccepted (string_bytes text)) }
     {

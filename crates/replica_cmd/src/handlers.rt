@@ -6,11 +6,10 @@ ghost use Rattle.serde_json.specs.Written.{has_float};
 ghost use Rattle.lab_model.specs.Text.{delivered_text, document_text};
 
 use crate::lab::Lab;
-use crate::number::NumberOp;
 use crate::things::{Hindrance, Thing};
 use crdt_laws::{NoMemory, Tower, Txt, document};
 use lab_model::{FileName, Refusal};
-use number_crdts::number;
+use number_crdts::{NumberOp, number};
 use replica_core::{Replica, copy_batch};
 use serde_json::{Value, json};
 use std::alloc::Global;
@@ -52,7 +51,8 @@ impl Lab {
     ghost use Rattle.lab_model.specs.Lab.{thing_at, pair_members, new_under, edit_under, show_under, export_under, merge_under};
     ghost use Rattle.lab_model.specs.Honest.{IsHonestLab};
     ghost use Rattle.replica_core.specs.Kept.{IsKept};
-    ghost use Rattle.replica_cmd.specs.Number.{number_meaning, number_op};
+    ghost use Rattle.number_crdts.specs.Number.{number_meaning};
+    ghost use Rattle.replica_cmd.specs.Number.{number_op};
     ghost use Rattle.replica_cmd.specs.Run.{IsAccepted};
     ghost use Rattle.replica_cmd.specs.Things.{contents, most_made, Answers, IsKeptLab, IsLabUpTo, Keeps};
 
@@ -65,7 +65,7 @@ impl Lab {
     ) -> Result<String, Hindrance>
         requires member { member < pair_members }
         requires kept { IsKeptLab (contents self.old) }
-        ensures answers { Answers result (contents self.new) (new_under number_meaning number_op (contents self.old) file member (thing_at (contents self.old) file)) }
+        ensures answers { Answers result (contents self.new) (new_under (number_meaning 0) number_op (contents self.old) file member (thing_at (contents self.old) file)) }
         ensures keeps { Keeps (contents self.old) (contents self.new) result }
         ensures said { IfOk result (λ text. IsAccepted (string_bytes text)) }
     {
@@ -89,10 +89,10 @@ impl Lab {
         file: FileName,
         op: NumberOp,
     ) -> Result<String, Hindrance>
-        requires well_formed { number_meaning.well_formed op }
+        requires well_formed { (number_meaning 0).well_formed op }
         requires kept { IsKeptLab (contents self.old) }
         requires room { IsLabUpTo most_made (contents self.old) }
-        ensures answers { Answers result (contents self.new) (edit_under number_meaning number_op (contents self.old) file op (thing_at (contents self.old) file)) }
+        ensures answers { Answers result (contents self.new) (edit_under (number_meaning 0) number_op (contents self.old) file op (thing_at (contents self.old) file)) }
         ensures keeps { Keeps (contents self.old) (contents self.new) result }
         ensures said { IfOk result (λ text. IsAccepted (string_bytes text)) }
     {
@@ -105,7 +105,7 @@ impl Lab {
     /// Prints the document of a replica.
     pub(crate) fn show(&self, alloc: Global, file: FileName) -> Result<String, Hindrance>
         requires kept { IsKeptLab (contents self.now) }
-        ensures answers { Answers result (contents self.now) (show_under number_meaning number_op (contents self.now) file (thing_at (contents self.now) file)) }
+        ensures answers { Answers result (contents self.now) (show_under (number_meaning 0) number_op (contents self.now) file (thing_at (contents self.now) file)) }
         ensures said { IfOk result (λ text. IsAccepted (string_bytes text)) }
     {
         let replica = match self.find(&file) {
@@ -126,7 +126,7 @@ impl Lab {
         name: FileName,
     ) -> Result<String, Hindrance>
         requires kept { IsKeptLab (contents self.old) }
-        ensures answers { Answers result (contents self.new) (export_under number_meaning number_op (contents self.old) file name (thing_at (contents self.old) file) (thing_at (contents self.old) name)) }
+        ensures answers { Answers result (contents self.new) (export_under (number_meaning 0) number_op (contents self.old) file name (thing_at (contents self.old) file) (thing_at (contents self.old) name)) }
         ensures keeps { Keeps (contents self.old) (contents self.new) result }
         ensures said { IfOk result (λ text. IsAccepted (string_bytes text)) }
     {
@@ -151,7 +151,7 @@ impl Lab {
         name: FileName,
     ) -> Result<String, Hindrance>
         requires kept { IsKeptLab (contents self.old) }
-        ensures answers { IsHonestLab number_meaning (contents self.old) → Answers result (contents self.new) (merge_under number_meaning number_op (contents self.old) file name (thing_at (contents self.old) file) (thing_at (contents self.old) name)) }
+        ensures answers { IsHonestLab (number_meaning 0) (contents self.old) → Answers result (contents self.new) (merge_under (number_meaning 0) number_op (contents self.old) file name (thing_at (contents self.old) file) (thing_at (contents self.old) name)) }
         ensures keeps { Keeps (contents self.old) (contents self.new) result }
         ensures said { IfOk result (λ text. IsAccepted (string_bytes text)) }
     {

@@ -1,8 +1,7 @@
-use crate::number::NumberOp;
 use crate::things::{Hindrance, Named, Thing};
 use crdt_laws::NoMemory;
 use lab_model::{FileName, Refusal};
-use number_crdts::Number;
+use number_crdts::{Number, NumberOp};
 use replica_core::Replica;
 use std::alloc::Global;
 

@@ -1,16 +1,15 @@
 ghost use Rattle.std.specs.Prelude.{◌≡◌};
-ghost use Rattle.replica_cmd.specs.Number.{number_meaning, number_op};
+ghost use Rattle.number_crdts.specs.Number.{number_meaning};
+ghost use Rattle.replica_cmd.specs.Number.{number_op};
 
 use lab_model::Verb;
+use number_crdts::NumberOp;
 use semidirect_product::StackOp;
-
-/// What is done to the number of a document. An addition is below, a multiplication above. The operand is a residue modulo 2^64.
-pub(crate) type NumberOp = StackOp<u64, u64>;
 
 /// The operation of a verb with its amount, a residue modulo 2^64.
 pub(crate) fn op_of(verb: Verb, amount: u64) -> NumberOp
     ensures op { result ≡ number_op verb amount }
-    ensures well_formed { number_meaning.well_formed result }
+    ensures well_formed { (number_meaning 0).well_formed result }
 {
     match verb {
         Verb::Add => StackOp::Low(amount),

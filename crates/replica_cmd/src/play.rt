@@ -1,10 +1,11 @@
 //! The lines of a script, one after another.
 ghost use Rattle.std.specs.Prelude.{◌≡◌, ◌⊎◌, ℕ, ◌<◌, ◌≤◌, List, Some, Err, IfOk, IsOk, OnOk, OnErr, IsErrOf, length, map};
+ghost use Rattle.number_crdts.specs.Number.{number_meaning};
 ghost use Rattle.lab_store.specs.Stream.{Appends, AppendsPart, Rose};
 ghost use Rattle.lab_model.specs.Honest.{IsHonestLab};
 ghost use Rattle.lab_model.specs.Lab.{lab_step};
 ghost use Rattle.lab_model.specs.Line.{lines_of};
-ghost use Rattle.replica_cmd.specs.Number.{number_meaning, number_op};
+ghost use Rattle.replica_cmd.specs.Number.{number_op};
 ghost use Rattle.replica_cmd.specs.Reading.{most_bytes};
 ghost use Rattle.replica_cmd.specs.Run.{run_text, AreFairLines, ArePlayed, Puts, PutsTexts};
 ghost use Rattle.replica_cmd.specs.Steps.{StepsAndPuts};
@@ -22,7 +23,7 @@ fn run_line<W: Sink>(alloc: Global, lab: &mut Lab, line: &[u8], sink: &mut W) ->
     requires kept { IsKeptLab (contents lab.old) }
     requires room { IsLabUpTo most_made (contents lab.old) }
     ensures steps { IfOk result (λ refused. StepsAndPuts (contents lab.old) (contents lab.new) line.now (W.told sink.old) (W.told sink.new) refused) }
-    ensures part { IsErrOf result Stop.Sink → IsHonestLab number_meaning (contents lab.old) → AppendsPart (W.told sink.old) (W.told sink.new) (lab_step number_meaning number_op (contents lab.old) line.now).text }
+    ensures part { IsErrOf result Stop.Sink → IsHonestLab (number_meaning 0) (contents lab.old) → AppendsPart (W.told sink.old) (W.told sink.new) (lab_step (number_meaning 0) number_op (contents lab.old) line.now).text }
     ensures fault { IsErrOf result Stop.Sink → Rose (W.faults sink.old) (W.faults sink.new) }
     ensures calm { OnOk result (W.faults sink.new ≡ W.faults sink.old) }
     ensures nothing { IsErrOf result Stop.NoMemory → W.told sink.new ≡ W.told sink.old }

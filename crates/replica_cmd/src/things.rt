@@ -1,7 +1,6 @@
-use crate::number::NumberOp;
 use crdt_laws::NoMemory;
 use lab_model::{FileName, Refusal};
-use number_crdts::Number;
+use number_crdts::{Number, NumberOp};
 use replica_core::{Batch, Replica};
 use std::alloc::AllocError;
 

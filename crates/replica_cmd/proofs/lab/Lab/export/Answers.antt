@@ -2,7 +2,6 @@ use Rattle.std.proofs.Common.{◌≡◌, ◌+◌, Some, sym, ◌∙◌, ap, arit
 use Rattle.replica_model.specs.Family as family
 use Rattle.lab_model.specs.Lab.{thing_at}
 use Rattle.replica_core.specs.Kept.{IsKeptBatch}
-use Rattle.replica_cmd.specs.Number.{number_meaning}
 use Rattle.replica_cmd.specs.Things.{contents, thing_of}
 use Rattle.replica_cmd.proofs.KeptLab.{kept_at, keeps_put, up_to_at, thing_up_to_more}
 use Rattle.std.specs.Prelude.{codes, string_bytes}
@@ -11,10 +10,12 @@ use Rattle.std.proofs.Common.{◌++◌, refl, rules}
 use Rattle.lab_model.specs.Text.{wrote_text}
 use Rattle.replica_cmd.proofs.Stepping.{accepted_from}
 use Rattle.replica_cmd.proofs.lab.Lab.export.Goals as goal
+use Rattle.number_crdts.specs.Number.{number_meaning}
 
 pub export-requires-clause-kept : goal.export-requires-clause-kept
 export-requires-clause-kept c =
-    (kept_at (contents c.args.self.now) c.args.file (family.replica c.in-Some-Replica-find.replica) c.requires.kept (sym c.in-Some-Replica-find.ensures ∙ ap (λ t. Some (thing_of t)) c.in-Some-Replica-find.field-0-is)).0
+    rw (c.number.ensures.low, c.number.ensures.high)
+    ((kept_at (contents c.args.self.now) c.args.file (family.replica c.in-Some-Replica-find.replica) c.requires.kept (sym c.in-Some-Replica-find.ensures ∙ ap (λ t. Some (thing_of t)) c.in-Some-Replica-find.field-0-is)).0)
 
 pub returns-clause-keeps : goal.returns-clause-keeps
 returns-clause-keeps c =
@@ -24,7 +25,7 @@ returns-clause-keeps c =
     let found : thing_at lab c.args.file ≡ Some (family.replica r) = sym c.in-Some-Replica-find.ensures ∙ ap (λ t. Some (thing_of t)) c.in-Some-Replica-find.field-0-is in
     let kept = kept_at lab c.args.file (family.replica r) c.requires.kept found in
     keeps_put lab (contents c.put.new.self) c.args.name (family.batch b) c.in_ok-format.field-0 c.in_ok-put.ensures c.requires.kept
-    (subst (λ n. IsKeptBatch number_meaning n b) kept.1 c.in_ok-batch-in-Some-Replica-find.ensures.kept)
+    (subst (λ n. IsKeptBatch (number_meaning 0) n b) kept.1 (rw (c.number.ensures.low, c.number.ensures.high) at c.in_ok-batch-in-Some-Replica-find.ensures.kept))
     (λ k h. thing_up_to_more k (k + 1) (omega arith) (family.batch b) (c.in_ok-batch-in-Some-Replica-find.ensures.up_to k (up_to_at lab c.args.file (family.replica r) k h found)))
 
 pub returns-clause-said : goal.returns-clause-said
