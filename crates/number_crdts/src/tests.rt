@@ -97,8 +97,12 @@ fn computes_with_residues(rt: HostRuntime) -> Result<(), Fail> {
 
 #[test]
 fn keeps_to_residues(rt: HostRuntime) -> Result<(), Fail> {
+    let alloc = rt.alloc();
     let tower = number_mod(12);
     let stamp = first_of(1);
+    let five = StackOp::Low(5);
+    assert!(rt; tower.same_op(&five, &tower.copy_op(alloc, &five)?));
+    assert_eq!(rt; tower.copy_state(alloc, &11)?, 11);
     assert!(rt; tower.valid(&stamp, &StackOp::Low(11)));
     assert!(rt; !tower.valid(&stamp, &StackOp::Low(12)));
     assert!(rt; !tower.valid(&stamp, &StackOp::High(12)));
