@@ -1,6 +1,6 @@
 -- An observed tower is lawful where the tower is lawful and plain.
 use Rattle.std.specs.Prelude.{◌≡◌, ℕ, ◌⊎◌, IsTrue}
-use Rattle.std.proofs.Common.{true, false, List, [], ◌∷◌, ◌++◌, Contains, not, inl, inr, refl, ap, ap₂, sym, ◌∙◌, subst, arith, take, drop}
+use Rattle.std.proofs.Common.{true, false, List, [], ◌++◌, Contains, not, inl, inr, refl, ap, ap₂, sym, ◌∙◌, subst, arith, take, drop}
 use Rattle.std.specs.List.{All, AllByRecursion, filter}
 use Rattle.std.proofs.lemmas.List.{take-append-drop}
 use Rattle.std.proofs.lemmas.List.Elements.{All-drop, All-from_recursion, filter-append, recursion_from_All}

@@ -14,6 +14,3 @@ pub use laws::{
 };
 pub use observed::{Observed, ObservedOp, ObservedState};
 pub use wins::{Winning, winning};
-
-#[cfg(test)]
-mod tests;
