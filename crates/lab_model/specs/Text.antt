@@ -3,9 +3,7 @@ use Rattle.std.specs.Prelude.{ℕ, List, [], ◌∷◌, ◌++◌, codes}
 use Rattle.std.specs.Fmt.{decimal}
 use Rattle.serde_json.specs.Data.{Data, member, no_members, object}
 use Rattle.serde_json.specs.Written.{compact_text}
-use Rattle.action_tables.specs.declared.named.TableFault.{TableFault}
-use Rattle.action_tables.specs.declared.named.TableFault.TheVariants as fault
-use Rattle.action_tables.specs.declared.table.Shape.TheVariants as shape
+use Rattle.action_tables.specs.FaultText.{fault_text}
 use Rattle.action_tables.specs.declared.table.Verdict.{Verdict}
 use Rattle.action_tables.specs.declared.table.Verdict.TheVariants.{Lawful, Broken}
 use Rattle.lab_model.specs.declared.refusal.Refusal.{Refusal}
@@ -36,17 +34,6 @@ abbrev pub verdict_text : Verdict → List ℕ
 verdict_text Lawful = ended (codes "lawful")
 verdict_text (Broken law a b c) =
     ended (codes "broken " ++ decimal law ++ codes " " ++ decimal a ++ codes " " ++ decimal b ++ codes " " ++ decimal c)
-
--- what is at fault with the text of a table
-abbrev pub fault_text : TableFault → List ℕ
-fault_text fault.NotJson = codes "not-json"
-fault_text fault.Form = codes "form"
-fault_text fault.Name = codes "name"
-fault_text fault.Twice = codes "twice"
-fault_text (fault.Shape shape.Size) = codes "size"
-fault_text (fault.Shape shape.Level) = codes "level"
-fault_text (fault.Shape (shape.Entry at)) = codes "entry " ++ decimal at
-fault_text fault.NoMemory = codes "no-memory"
 
 abbrev pub refusal_text : Refusal → List ℕ
 refusal_text Unbuilt = codes "unbuilt"

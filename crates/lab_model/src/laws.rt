@@ -14,7 +14,7 @@ ghost use Rattle.lab_model.specs.Honest.{AreFair, CountAtMost, IsHonestLab, Make
 use crdt_laws::Tower;
 
 /// Fair lines keep a lab honest while its sequence numbers stay within the limit. A line adds one to them at most, so
-/// a million lines may run from an empty lab.
+/// [`MAX_SEQ`](vector_clock::MAX_SEQ) lines may run from an empty lab.
 pub fn fair_runs<T: Tower>(tower: &T)
     ensures honest { (made : Verb → ℕ → T.Op) (lab : Lab T.Op) (lines : List (List ℕ)) (k : ℕ) → MakesValid (T.meaning tower.now) made
         → IsHonestLab (T.meaning tower.now) lab → CountAtMost k lab → AreFair (T.meaning tower.now) made lab lines → k + length lines ≤ max_seq

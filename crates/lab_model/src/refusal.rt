@@ -1,9 +1,10 @@
 use crate::name::FileName;
-use action_tables::{Shape, TableFault};
+use action_tables::TableFault;
 use std::fmt;
+use thiserror::Error;
 
 /// Why a line is refused. It changes nothing then.
-#[derive(Debug, Drop)]
+#[derive(Debug, Drop, Error)]
 pub enum Refusal {
     /// It is none of the lines that are built, or it takes a batch for a replica or a replica for a batch.
     Unbuilt,
@@ -26,14 +27,7 @@ impl fmt::Display for Refusal {
             Refusal::Unbuilt => write!(f, "unbuilt"),
             Refusal::Exists(name) => write!(f, "exists {name}"),
             Refusal::Missing(name) => write!(f, "missing {name}"),
-            Refusal::Table(TableFault::NotJson) => write!(f, "table not-json"),
-            Refusal::Table(TableFault::Form) => write!(f, "table form"),
-            Refusal::Table(TableFault::Name) => write!(f, "table name"),
-            Refusal::Table(TableFault::Twice) => write!(f, "table twice"),
-            Refusal::Table(TableFault::Shape(Shape::Size)) => write!(f, "table size"),
-            Refusal::Table(TableFault::Shape(Shape::Level)) => write!(f, "table level"),
-            Refusal::Table(TableFault::Shape(Shape::Entry { at })) => write!(f, "table entry {at}"),
-            Refusal::Table(TableFault::NoMemory) => write!(f, "table no-memory"),
+            Refusal::Table(fault) => write!(f, "table {fault}"),
         }
     }
 }
