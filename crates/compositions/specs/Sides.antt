@@ -1,12 +1,15 @@
 -- Two things of one kind side by side that change places.
-use Rattle.std.specs.Prelude.{◌≡◌, false}
+use Rattle.std.specs.Prelude.{◌≡◌, ℕ, ◌==◌, IsTrue, false}
 use Rattle.std.proofs.Common.{refl, inl, inr}
+use Rattle.std.proofs.lemmas.Bool.{eqb-true}
 use Rattle.vector_clock.specs.declared.stamp.Stamp.{Stamp}
 use Rattle.crdt_laws.specs.Tower.{Meaning, IsWithin}
 use Rattle.crdt_laws.specs.Actor.{Action, IsLawfulAction}
 use Rattle.direct_product.specs.declared.pair.Both.{Both}
 use Rattle.direct_product.specs.declared.pair.PairOp.{PairOp}
 use Rattle.direct_product.specs.declared.pair.PairOp.TheVariants.{Left, Right}
+use Rattle.semidirect_product.specs.Stack.{stack_meaning}
+use Rattle.number_crdts.specs.Number.{add_meaning, mul_action, number_meaning}
 use Rattle.direct_product.specs.Pair.{both, pair_act, pair_apply, pair_level, pair_meaning, pair_holds, pair_valid, pair_well_formed}
 
 -- each state is now that of the other side
@@ -56,7 +59,7 @@ module _ {S O : Type 0} (m : Meaning S O) where
   holds s q (inl h) = inr h
   holds s q (inr h) = inl h
 
-  pub swap_lawful : IsLawfulAction (pair_meaning m m) swap_action
+  swap_lawful : IsLawfulAction (pair_meaning m m) swap_action
   swap_lawful = record {
     valid_within = λ p y h. h;
     valid_well_formed = λ p y h. tt;
@@ -72,3 +75,8 @@ module _ {S O : Type 0} (m : Meaning S O) where
     good_at-apply = λ d s p y h _ _ _ _. (h.1, h.0);
     holds-apply = λ s p y q h. inr (holds s q h);
   }
+
+-- so it does on two numbers of one modulus
+pub swap_fits_lawful : (a m b n : ℕ) → IsTrue (m == a) → IsTrue (n == b) → IsTrue (a == b)
+    → IsLawfulAction (pair_meaning (stack_meaning (add_meaning a) (mul_action m)) (stack_meaning (add_meaning b) (mul_action n))) swap_action
+swap_fits_lawful a m b n left right fit = rw (eqb-true m a left, eqb-true n b right, eqb-true a b fit) (swap_lawful (number_meaning b))

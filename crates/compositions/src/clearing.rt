@@ -1,7 +1,7 @@
-ghost use Rattle.std.specs.Prelude.{◌≡◌};
+ghost use Rattle.std.specs.Prelude.{◌≡◌, ◌≢◌};
 
 use crdt_laws::{Actor, NoMemory, is_within};
-use number_crdts::{Number, number};
+use number_crdts::{Number, NumberOp, number_mod};
 use semidirect_product::{Stack, StackOp};
 use std::alloc::Global;
 use vector_clock::Stamp;
@@ -13,7 +13,7 @@ pub struct Clear;
 
 impl Actor<Number> for Clear {
     ghost use Rattle.std.specs.Prelude.{true};
-    ghost use Rattle.compositions.specs.Clearing.{clear_action, clear_lawful};
+    ghost use Rattle.compositions.specs.Clearing.{clear_action, clear_fits_lawful};
 
     type Op = ();
 
@@ -45,8 +45,8 @@ impl Actor<Number> for Clear {
         _alloc: Global,
         _low: &Number,
         _y: &(),
-        x: &StackOp<u64, u64>,
-    ) -> Result<StackOp<u64, u64>, NoMemory> {
+        x: &NumberOp,
+    ) -> Result<NumberOp, NoMemory> {
         match x {
             StackOp::Low(_) => Ok(StackOp::Low(0)),
             StackOp::High(_) => Ok(StackOp::High(1)),
@@ -61,13 +61,17 @@ impl Actor<Number> for Clear {
         true
     }
 
-    ghost lawful = { λ _ _ _. clear_lawful };
+    ghost lawful = { λ _ low _. clear_fits_lawful low.high.modulus low.low.modulus low.fitting low.low.proper };
 }
 
 /// A number with additions of level 1, multiplications of level 2, and clearings of level 3: a stack on a stack.
 pub type Clearable = Stack<Number, Clear>;
 
-/// The tower of numbers that are cleared.
-pub fn clearable() -> Clearable {
-    Stack::of(number(), Clear)
+/// The tower of numbers modulo `modulus` that are cleared, where 0 stands for 2^64, and 1 is no modulus.
+pub fn clearable(modulus: u64) -> Clearable
+    requires { modulus ≢ 1 }
+    ensures low { result.low.low.modulus ≡ modulus }
+    ensures high { result.low.high.modulus ≡ modulus }
+{
+    Stack::of(number_mod(modulus), Clear)
 }

@@ -6,7 +6,7 @@ ghost use Rattle.crdt_laws.specs.Tower.{IsStampOf};
 use super::*;
 use crdt_laws::{NoMemory, Ops, Tower, document};
 use direct_product::{Both, Pair, PairOp, Row, RowOp};
-use number_crdts::number;
+use number_crdts::{NumberOp, number};
 use semidirect_product::{Maybe, MaybeOp, StackOp};
 use std::alloc::Global;
 use std::test::Fail;
@@ -44,6 +44,28 @@ fn after<T: Tower>(
     }
 }
 
+// The state after operations, each as a first one.
+fn after_all<T: Tower>(alloc: Global, tower: &T, ops: &[T::Op]) -> Result<T::State, NoMemory>
+    requires { IsTrue (T.meaning tower.now).plain }
+    ensures { IfOk result (λ s. (T.meaning tower.now).good 3 s) }
+{
+    let mut state = tower.init(alloc)?;
+    for op in ops {
+        state = after(alloc, tower, state, 0, op)?;
+    }
+    Ok(state)
+}
+
+// What is shown of a copy of that state, settled.
+fn shown_after<T: Tower>(alloc: Global, tower: &T, ops: &[T::Op]) -> Result<String, NoMemory>
+    requires { IsTrue (T.meaning tower.now).plain }
+{
+    let state = after_all(alloc, tower, ops)?;
+    let settled = tower.settle(alloc, state, &Clock::zero(3))?;
+    let copy = tower.copy_state(alloc, &settled)?;
+    Ok(tower.show(alloc, &copy)?.to_string(alloc)?)
+}
+
 // What an operation becomes when another acts on it. One that is not valid ends a test as running out of memory does.
 fn acted<T: Tower>(alloc: Global, tower: &T, y: &T::Op, x: &T::Op) -> Result<T::Op, NoMemory> {
     let stamp = first_of(0);
@@ -54,42 +76,42 @@ fn acted<T: Tower>(alloc: Global, tower: &T, y: &T::Op, x: &T::Op) -> Result<T::
     }
 }
 
-#[test]
-fn adds_and_multiplies(rt: HostRuntime) -> Result<(), Fail> {
-    let alloc = rt.alloc();
-    let tower = number();
-    let state = tower.init(alloc)?;
-    let state = after(alloc, &tower, state, 0, &StackOp::Low(5))?;
-    let state = after(alloc, &tower, state, 1, &StackOp::High(3))?;
-    let copy = tower.copy_state(alloc, &state)?;
-    assert_eq!(rt; copy, 15);
-    let shown = tower.show(alloc, &state)?.to_string(alloc)?;
-    assert_eq!(rt; shown.as_str(), "15");
-    assert!(rt; tower.same_op(&StackOp::Low(5), &StackOp::Low(5)));
-    assert!(rt; !tower.same_op(&StackOp::Low(5), &StackOp::High(5)));
-    Ok(())
+// Whether it becomes the same as a copy of a third one, and no longer itself.
+fn turns<T: Tower>(
+    alloc: Global,
+    tower: &T,
+    y: &T::Op,
+    x: &T::Op,
+    then: &T::Op,
+) -> Result<bool, NoMemory> {
+    let copy = tower.copy_op(alloc, then)?;
+    let acted = acted(alloc, tower, y, x)?;
+    Ok(tower.same_op(&acted, &copy) && !tower.same_op(&acted, x))
 }
 
 #[test]
 fn keeps_two_numbers_apart(rt: HostRuntime) -> Result<(), Fail> {
     let alloc = rt.alloc();
     let tower = Pair::of(number(), number());
-    let state = tower.init(alloc)?;
-    let state = after(alloc, &tower, state, 0, &PairOp::Left(StackOp::Low(2)))?;
-    let state = after(alloc, &tower, state, 1, &PairOp::Right(StackOp::Low(7)))?;
     let triple = PairOp::Right(StackOp::High(3));
-    let state = after(alloc, &tower, state, 2, &triple)?;
-    let state = tower.settle(alloc, state, &Clock::zero(3))?;
-    let copy = tower.copy_state(alloc, &state)?;
-    assert_eq!(rt; copy, Both { left: 2, right: 21 });
-    let shown = tower.show(alloc, &state)?.to_string(alloc)?;
-    assert_eq!(rt; shown.as_str(), "[2,21]");
     let seven = PairOp::Right(StackOp::Low(7));
-    assert!(rt; tower.same_op(&seven, &tower.copy_op(alloc, &seven)?));
     assert!(rt; !tower.same_op(&seven, &PairOp::Left(StackOp::Low(7))));
-    let tripled = PairOp::Right(StackOp::Low(21));
-    assert!(rt; tower.same_op(&acted(alloc, &tower, &triple, &seven)?, &tripled));
+    let more = PairOp::Right(StackOp::Low(21));
+    assert!(rt; turns(alloc, &tower, &triple, &seven, &more)?);
+    let ops = [PairOp::Left(StackOp::Low(2)), seven, triple];
+    assert_eq!(rt;
+        shown_after(alloc, &tower, ops.as_slice())?.as_str(),
+        "[2,21]"
+    );
     Ok(())
+}
+
+// The operation of a part of a row.
+fn at_part<Op: Drop>(part: u8, op: Op) -> RowOp<MaybeOp<Op>> {
+    RowOp {
+        part,
+        op: MaybeOp::Real(op),
+    }
 }
 
 #[test]
@@ -101,98 +123,84 @@ fn keeps_the_parts_of_a_row_apart(rt: HostRuntime) -> Result<(), Fail> {
         Maybe::of(number()),
     ]?;
     let tower = Row::of(parts);
-    let five = RowOp {
-        part: 1,
-        op: MaybeOp::Real(StackOp::Low(5)),
-    };
+    let five = at_part(1, StackOp::Low(5));
+    let triple = at_part(1, StackOp::High(3));
+    let more = at_part(1, StackOp::Low(15));
     let nothing = RowOp {
         part: 1,
         op: MaybeOp::Nothing(2),
     };
-    let eight = RowOp {
-        part: 2,
-        op: MaybeOp::Real(StackOp::Low(8)),
-    };
-    let state = tower.init(alloc)?;
-    let state = after(alloc, &tower, state, 0, &five)?;
-    let state = after(alloc, &tower, state, 1, &nothing)?;
-    let state = after(alloc, &tower, state, 2, &eight)?;
-    let state = tower.settle(alloc, state, &Clock::zero(3))?;
-    let copy = tower.copy_state(alloc, &state)?;
-    assert_eq!(rt; copy.items.as_slice(), [0, 5, 8].as_slice());
-    let shown = tower.show(alloc, &state)?.to_string(alloc)?;
-    assert_eq!(rt; shown.as_str(), "[0,5,8]");
-    assert!(rt; tower.same_op(&nothing, &tower.copy_op(alloc, &nothing)?));
-    assert!(rt; !tower.same_op(&nothing, &five));
-    assert!(rt; !tower.same_op(&eight, &five));
-    let triple = RowOp {
-        part: 1,
-        op: MaybeOp::Real(StackOp::High(3)),
-    };
-    let fifteen = RowOp {
-        part: 1,
-        op: MaybeOp::Real(StackOp::Low(15)),
-    };
-    assert!(rt; tower.same_op(&acted(alloc, &tower, &triple, &five)?, &fifteen));
+    assert!(rt; turns(alloc, &tower, &triple, &five, &more)?);
+    assert!(rt; !tower.same_op(&at_part(2, StackOp::Low(5)), &five));
+    let ops = [five, nothing, at_part(2, StackOp::Low(8))];
+    assert_eq!(rt;
+        shown_after(alloc, &tower, ops.as_slice())?.as_str(),
+        "[0,5,8]"
+    );
     Ok(())
 }
 
-// The state after three operations of rising levels, as they rise.
+// What is shown after three operations of rising levels, as they rise.
 fn rising<T: Tower>(
     alloc: Global,
     tower: &T,
-    state: T::State,
+    start: &[T::Op],
     low: &T::Op,
     middle: &T::Op,
     high: &T::Op,
-) -> Result<T::State, NoMemory>
-    requires plain { IsTrue (T.meaning tower.now).plain }
-    requires good { (T.meaning tower.now).good 3 state }
+) -> Result<String, NoMemory>
+    requires { IsTrue (T.meaning tower.now).plain }
 {
+    let state = after_all(alloc, tower, start)?;
     let state = after(alloc, tower, state, 0, low)?;
     let state = after(alloc, tower, state, 1, middle)?;
-    after(alloc, tower, state, 2, high)
+    let state = after(alloc, tower, state, 2, high)?;
+    Ok(tower.show(alloc, &state)?.to_string(alloc)?)
 }
 
-// The state after them from the highest down, where each one is in the form that those before it have left of it.
+// What is shown after them from the highest down, where each one is in the form that those before it have left of it.
 fn falling<T: Tower>(
     alloc: Global,
     tower: &T,
-    state: T::State,
+    start: &[T::Op],
     low: &T::Op,
     middle: &T::Op,
     high: &T::Op,
-) -> Result<T::State, NoMemory>
-    requires plain { IsTrue (T.meaning tower.now).plain }
-    requires good { (T.meaning tower.now).good 3 state }
-    requires low { (T.meaning tower.now).well_formed low.now }
-    requires middle { (T.meaning tower.now).well_formed middle.now }
-    requires high { (T.meaning tower.now).well_formed high.now }
+) -> Result<String, NoMemory>
+    requires { IsTrue (T.meaning tower.now).plain }
 {
+    let state = after_all(alloc, tower, start)?;
     let state = after(alloc, tower, state, 2, high)?;
-    let middle = tower.act(alloc, high, middle)?;
+    let middle = acted(alloc, tower, high, middle)?;
     let state = after(alloc, tower, state, 1, &middle)?;
-    let low = tower.act(alloc, high, low)?;
-    let low = tower.act(alloc, &middle, &low)?;
-    after(alloc, tower, state, 0, &low)
+    let low = acted(alloc, tower, high, low)?;
+    let low = acted(alloc, tower, &middle, &low)?;
+    let state = after(alloc, tower, state, 0, &low)?;
+    Ok(tower.show(alloc, &state)?.to_string(alloc)?)
+}
+
+// An operation on the left number of two, and one on the right.
+fn to_left<H: Drop>(op: NumberOp) -> StackOp<PairOp<NumberOp, NumberOp>, H> {
+    StackOp::Low(PairOp::Left(op))
+}
+
+fn to_right<H: Drop>(op: NumberOp) -> StackOp<PairOp<NumberOp, NumberOp>, H> {
+    StackOp::Low(PairOp::Right(op))
 }
 
 // An addition of 5 to the left number, its multiplication by 3, and a change of places, of which none knew of another.
 #[test]
 fn three_levels_of_two_numbers(rt: HostRuntime) -> Result<(), Fail> {
     let alloc = rt.alloc();
-    let tower = sides();
-    let low = StackOp::Low(PairOp::Left(StackOp::Low(5)));
-    let middle = StackOp::Low(PairOp::Left(StackOp::High(3)));
+    let tower = sides(0);
+    let start = [to_left(StackOp::Low(2)), to_right(StackOp::Low(7))];
+    let low = to_left(StackOp::Low(5));
+    let middle = to_left(StackOp::High(3));
     let high = StackOp::High(());
-    let start = Both { left: 2, right: 7 };
-    let up = rising(alloc, &tower, start, &low, &middle, &high)?;
-    assert_eq!(rt; up, Both { left: 7, right: 21 });
-    let start = Both { left: 2, right: 7 };
-    let down = falling(alloc, &tower, start, &low, &middle, &high)?;
+    let up = rising(alloc, &tower, start.as_slice(), &low, &middle, &high)?;
+    assert_eq!(rt; up.as_str(), "[7,21]");
+    let down = falling(alloc, &tower, start.as_slice(), &low, &middle, &high)?;
     assert_eq!(rt; down, up);
-    let shown = tower.show(alloc, &down)?.to_string(alloc)?;
-    assert_eq!(rt; shown.as_str(), "[7,21]");
     Ok(())
 }
 
@@ -200,14 +208,17 @@ fn three_levels_of_two_numbers(rt: HostRuntime) -> Result<(), Fail> {
 #[test]
 fn three_levels_of_a_number(rt: HostRuntime) -> Result<(), Fail> {
     let alloc = rt.alloc();
-    let tower = clearable();
+    let tower = clearable(12);
+    let start = [StackOp::Low(StackOp::Low(2))];
     let low = StackOp::Low(StackOp::Low(5));
     let middle = StackOp::Low(StackOp::High(3));
     let high = StackOp::High(());
-    assert_eq!(rt; rising(alloc, &tower, 2, &low, &middle, &high)?, 0);
-    assert_eq!(rt; falling(alloc, &tower, 2, &low, &middle, &high)?, 0);
-    let acted = tower.act(alloc, &high, &low)?;
-    assert!(rt; tower.same_op(&acted, &StackOp::Low(StackOp::Low(0))));
+    let up = rising(alloc, &tower, start.as_slice(), &low, &middle, &high)?;
+    assert_eq!(rt; up.as_str(), "0");
+    let down = falling(alloc, &tower, start.as_slice(), &low, &middle, &high)?;
+    assert_eq!(rt; down, up);
+    let none = StackOp::Low(StackOp::Low(0));
+    assert!(rt; turns(alloc, &tower, &high, &low, &none)?);
     Ok(())
 }
 
@@ -240,39 +251,48 @@ fn document_of<T: Tower>(alloc: Global, tower: &T, ops: &Ops<T::Op>) -> Result<T
     document(alloc, tower, ops)
 }
 
+// The document of an operation of each of three members, of which none knew of another.
+fn document_of_three<T: Tower>(
+    alloc: Global,
+    tower: &T,
+    first: T::Op,
+    second: T::Op,
+    third: T::Op,
+) -> Result<T::State, NoMemory>
+    requires { IsTrue (T.meaning tower.now).plain }
+{
+    let ops = with_one(alloc, tower, Ops::new(alloc), first_of(0), first)?;
+    let ops = with_one(alloc, tower, ops, first_of(1), second)?;
+    let ops = with_one(alloc, tower, ops, first_of(2), third)?;
+    document_of(alloc, tower, &ops)
+}
+
 // What a member does to two numbers: one adds 5 to the left one, one multiplies that by 3, and the other lets them change places.
-fn deed_of(
-    member: u8,
-    adds: u8,
-    multiplies: u8,
-) -> StackOp<PairOp<StackOp<u64, u64>, StackOp<u64, u64>>, ()> {
+fn deed_of(member: u8, adds: u8, multiplies: u8) -> StackOp<PairOp<NumberOp, NumberOp>, ()> {
     if member == adds {
-        StackOp::Low(PairOp::Left(StackOp::Low(5)))
+        to_left(StackOp::Low(5))
     } else if member == multiplies {
-        StackOp::Low(PairOp::Left(StackOp::High(3)))
+        to_left(StackOp::High(3))
     } else {
         StackOp::High(())
     }
 }
 
-// The three do so at once, whoever does what.
+// The three do so at once, whoever does what, and 15 is 3 modulo 12.
 #[test]
 fn one_document_whoever_does_what(rt: HostRuntime) -> Result<(), Fail> {
     let alloc = rt.alloc();
-    let tower = sides();
+    let tower = sides(12);
     for (adds, multiplies) in [(0, 1), (0, 2), (1, 0), (1, 2), (2, 0), (2, 1)] {
         let first = deed_of(0, adds, multiplies);
         let second = deed_of(1, adds, multiplies);
         let third = deed_of(2, adds, multiplies);
-        let ops = with_one(alloc, &tower, Ops::new(alloc), first_of(0), first)?;
-        let ops = with_one(alloc, &tower, ops, first_of(1), second)?;
-        let ops = with_one(alloc, &tower, ops, first_of(2), third)?;
-        let state = document_of(alloc, &tower, &ops)?;
-        let shown = tower.show(alloc, &state)?.to_string(alloc)?;
-        assert_eq!(rt; shown.as_str(), "[0,15]", "{adds} {multiplies}");
+        let state = document_of_three(alloc, &tower, first, second, third)?;
+        assert_eq!(rt; state, Both { left: 0, right: 3 }, "{adds} {multiplies}");
     }
     Ok(())
 }
 
 mod flags;
 mod maps;
+mod resets;

@@ -1,12 +1,11 @@
-use super::{acted, after, first_of};
+use super::{first_of, shown_after, turns};
 use crdt_laws::{NoMemory, Tower, Txt};
 use map_crdt::{KeyOp, Keyed};
-use number_crdts::{Number, number};
+use number_crdts::number;
 use register_crdts::Latest;
 use semidirect_product::StackOp;
 use std::alloc::Global;
 use std::test::Fail;
-use vector_clock::Clock;
 
 fn text(alloc: Global, words: &str) -> Result<Txt, NoMemory> {
     Ok(Txt {
@@ -22,24 +21,19 @@ fn on_key<Op: Drop>(alloc: Global, key: &str, op: Op) -> Result<KeyOp<Op>, NoMem
 }
 
 // What the tally shows after these numbers were added to the keys, in their order.
-fn tallied(alloc: Global, tower: &Keyed<Number>, rows: &[(&str, u64)]) -> Result<String, NoMemory> {
-    let mut state = tower.init(alloc)?;
+fn tallied(alloc: Global, rows: &[(&str, u64)]) -> Result<String, NoMemory> {
+    let mut ops = Vec::new(alloc);
     for (key, number) in rows {
-        let op = on_key(alloc, key, StackOp::Low(*number))?;
-        state = after(alloc, tower, state, 0, &op)?;
+        ops.push(on_key(alloc, key, StackOp::Low(*number))?)?;
     }
-    Ok(tower.show(alloc, &state)?.to_string(alloc)?)
+    shown_after(alloc, &Keyed::of(number()), ops.as_slice())
 }
 
 #[test]
 fn tallies_by_key(rt: HostRuntime) -> Result<(), Fail> {
     let alloc = rt.alloc();
-    let tower = Keyed::of(number());
-    assert_eq!(rt; tallied(alloc, &tower, &[])?.as_str(), "{}");
-    assert_eq!(rt;
-        tallied(alloc, &tower, &[("ann", 2)])?.as_str(),
-        r#"{"ann":2}"#
-    );
+    assert_eq!(rt; tallied(alloc, &[])?.as_str(), "{}");
+    assert_eq!(rt; tallied(alloc, &[("ann", 2)])?.as_str(), r#"{"ann":2}"#);
     // Keys are shown in the order of their bytes, whichever came first.
     let rows = [
         ("zoe", 1),
@@ -49,18 +43,9 @@ fn tallies_by_key(rt: HostRuntime) -> Result<(), Fail> {
         ("é", 5),
         ("an", 7),
     ];
-    let shown = tallied(alloc, &tower, &rows)?;
+    let shown = tallied(alloc, &rows)?;
     assert_eq!(rt; shown.as_str(), r#"{"Bob":3,"an":7,"ann":6,"zoe":1,"é":5}"#);
     Ok(())
-}
-
-// What is shown of a copy of the settled state.
-fn shown_settled<T: Tower>(alloc: Global, tower: &T, state: T::State) -> Result<String, NoMemory>
-    requires { (T.meaning tower.now).good 3 state }
-{
-    let settled = tower.settle(alloc, state, &Clock::zero(3))?;
-    let copy = tower.copy_state(alloc, &settled)?;
-    Ok(tower.show(alloc, &copy)?.to_string(alloc)?)
 }
 
 // A multiplication acts on what is added to its own key.
@@ -72,13 +57,11 @@ fn keeps_keys_apart(rt: HostRuntime) -> Result<(), Fail> {
     let ann = on_key(alloc, "ann", StackOp::Low(2))?;
     let bob = on_key(alloc, "bob", StackOp::Low(2))?;
     let six = on_key(alloc, "ann", StackOp::Low(6))?;
-    assert!(rt; tower.same_op(&six, &acted(alloc, &tower, &triple, &ann)?));
-    assert!(rt; tower.same_op(&bob, &acted(alloc, &tower, &triple, &bob)?));
-    assert!(rt; tower.same_op(&ann, &tower.copy_op(alloc, &ann)?));
-    assert!(rt; !tower.same_op(&ann, &bob) && !tower.same_op(&ann, &six));
-    let state = after(alloc, &tower, tower.init(alloc)?, 0, &bob)?;
-    let state = after(alloc, &tower, state, 1, &triple)?;
-    let shown = shown_settled(alloc, &tower, state)?;
+    assert!(rt; turns(alloc, &tower, &triple, &ann, &six)?);
+    assert!(rt; !turns(alloc, &tower, &triple, &bob, &six)?);
+    assert!(rt; !tower.same_op(&ann, &bob));
+    let ops = [bob, triple];
+    let shown = shown_after(alloc, &tower, ops.as_slice())?;
     assert_eq!(rt; shown.as_str(), r#"{"ann":0,"bob":2}"#);
     Ok(())
 }
@@ -99,10 +82,8 @@ fn may_put(alloc: Global, bytes: &[u8], times: usize, words: &str) -> Result<boo
 #[test]
 fn puts_texts_at_keys(rt: HostRuntime) -> Result<(), Fail> {
     let alloc = rt.alloc();
-    let tower = Keyed::of(Latest);
-    let map = on_key(alloc, "map", text(alloc, "m.example/1")?)?;
-    let state = after(alloc, &tower, tower.init(alloc)?, 0, &map)?;
-    let shown = tower.show(alloc, &state)?.to_string(alloc)?;
+    let map = [on_key(alloc, "map", text(alloc, "m.example/1")?)?];
+    let shown = shown_after(alloc, &Keyed::of(Latest), map.as_slice())?;
     assert_eq!(rt; shown.as_str(), r#"{"map":"m.example/1"}"#);
     // A key has 1 to 256 bytes of UTF-8.
     let half = [0xC3].as_slice();
