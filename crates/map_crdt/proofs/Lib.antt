@@ -1,4 +1,3 @@
 pub mod Places
 pub mod Presence
 pub mod Steps
-pub mod Swaps

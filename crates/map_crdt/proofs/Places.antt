@@ -1,6 +1,7 @@
 -- Where a key stands among rising keys, and what is read and written there.
-use Rattle.std.proofs.Common.{◌≡◌, ℕ, zero, suc, ◌+◌, ◌<◌, ◌≤◌, List, [], ◌∷◌, ◌++◌, length, get_or, Result, Ok, Err, IfOk, IfErr, Less, Equal, Greater, refl, sym, subst, ap, ap₂, ◌∙◌, arith}
-use Rattle.std.specs.List.{HoldsAt, insert, remove, swap, swap_remove}
+use Rattle.std.proofs.Common.{◌≡◌, ℕ, zero, suc, ◌+◌, ◌<◌, ◌≤◌, List, [], ◌∷◌, ◌++◌, length, get_or, Result, Ok, Err, IfOk, IfErr, Less, Equal, Greater, refl, sym, subst, ap, ◌∙◌, arith}
+use Rattle.std.specs.List.{HoldsAt, insert, swap, swap_remove}
+use Rattle.std.proofs.Math.ListN.{set}
 use Rattle.std.specs.List.Sorted.{IsBinarySearchResult, IsPartitionPoint, IsSortedBy}
 use Rattle.std.specs.Ordering.{is_lt}
 use Rattle.std.proofs.lemmas.Cmp.{nat_list_cmp_total}
@@ -8,9 +9,9 @@ use Rattle.std.proofs.lemmas.List.Elements.{All-from_recursion}
 use Rattle.std.proofs.lemmas.List.Sorted.{searchable_from_sorted}
 use Rattle.vector_clock.specs.declared.stamp.Stamp.{Stamp}
 use Rattle.crdt_laws.specs.Tower.{Meaning}
+use Rattle.crdt_laws.proofs.Swaps.{length-removed, swapped_back}
 use Rattle.map_crdt.specs.declared.keyed.KeyState.{KeyState}
 use Rattle.map_crdt.specs.Keyed.{AreRising, apply_at, byte_order, pair, put, state_at}
-use Rattle.map_crdt.proofs.Swaps.{length-short, swapped_back}
 use Rattle.map_crdt.specs.KeyedLaws.{at_here, at_later, equal_same, greater_less, less_greater, less_other, greater_other, put_equal, put_greater, put_less, same_equal}
 
 module _ {S : Type 0} where
@@ -45,7 +46,7 @@ module _ {S O : Type 0} (m : Meaning S O) where
   -- s is the state at the key k, which stands at the place i
   pub record IsStateAt (es : List (KeyState S)) (k : List ℕ) (i : ℕ) (s : S) : Type 0 where
     pub state : state_at m es k ≡ s
-    pub written : (v : S) → insert (remove es i) i (pair k v) ≡ put es k v
+    pub written : (v : S) → set es i (pair k v) ≡ put es k v
 
   state_there : (es : List (KeyState S)) → AreRising es → (k : List ℕ) (i : ℕ) (d : KeyState S) → i < length es → (get_or es i d).key ≡ k → IsStateAt es k i (get_or es i d).state
   state_there [] r k i d within same = absurd (omega arith)
@@ -95,9 +96,8 @@ module _ {S O : Type 0} (m : Meaning S O) where
       → (rest : List (KeyState S)) → rest ≡ swap_remove es i x → (p : Stamp) (o : O) (v : S) → v ≡ m.apply x.state p o
       → (n : ℕ) → n ≡ length rest → swap (rest ++ pair x.key v ∷ []) i n ≡ apply_at m es k p o
   written_back es k i x there key within rest is p o v applied n last =
-      ap₂ (λ (l : List (KeyState S)) (j : ℕ). swap (l ++ pair x.key v ∷ []) i j) is (last ∙ ap length is ∙ length-short es i x (pair x.key v) within)
-      ∙ swapped_back es i x (pair x.key v) within
-      ∙ ap (λ j. insert (remove es i) i (pair j v)) key ∙ there.written v
+      swapped_back (pair x.key v) es i x within rest is n (omega (arith, last, ap length is, length-removed es i x within))
+      ∙ ap (λ j. set es i (pair j v)) key ∙ there.written v
       ∙ ap (put es k) (applied ∙ ap (λ s. m.apply s p o) (sym there.state))
 
   -- what is written at the place of a key that is absent

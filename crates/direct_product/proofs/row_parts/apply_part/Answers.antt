@@ -1,7 +1,7 @@
 use Rattle.std.proofs.Common.{◌∙◌, sym, ap, arith}
 use Rattle.std.specs.List.{swap}
 use Rattle.direct_product.proofs.RowReads.{IsStateOf, has_state, part_at, state_of, valid_within}
-use Rattle.direct_product.proofs.Swaps.{swapped_back}
+use Rattle.crdt_laws.proofs.Swaps.{swapped_back}
 use Rattle.direct_product.proofs.row_parts.apply_part.Goals as goal
 
 pub swap_remove-state-requires : goal.swap_remove-state-requires

@@ -42,3 +42,10 @@ module _ {X : Type 0} (e : X) where
       ap₂ (λ l k. swap l i k) is_stood at
       ∙ sym (swap_is (stood_in y ys i x) i (length ys) e (omega (arith, length-stood y ys i x)) (omega (arith, length-stood y ys i x)))
       ∙ put_back y ys i x e e within
+
+-- one element less is left
+pub length-removed : {X : Type 0} (xs : List X) (i : ℕ) (x : X) → i < length xs → suc (length (swap_remove xs i x)) ≡ length xs
+length-removed xs i x within =
+    let replaced = set xs i (get_or xs (length xs - 1) x) in
+    let same = length-set xs i (get_or xs (length xs - 1) x) in
+    omega (arith, same, length-take-le (length xs - 1) replaced (omega (arith, same)))
