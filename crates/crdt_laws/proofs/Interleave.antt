@@ -1,11 +1,11 @@
 -- Two lists by rising key, interleaved, are the canonical list of both.
-use Rattle.std.proofs.Common.{◌≡◌, true, false, List, [], ◌∷◌, ◌++◌, cond, refl, ap, sym, ◌∙◌, ◌⊎◌, inl, inr, subst, Contains, append_assoc, append-nil, ap₂, Result, OnOk, length, get_or, drop, ◌<◌, arith}
+use Rattle.std.proofs.Common.{◌≡◌, ℕ, zero, suc, ◌-◌, ◌≤◌, take, Some, slice_get, true, false, List, [], ◌∷◌, ◌++◌, cond, refl, ap, sym, ◌∙◌, ◌⊎◌, inl, inr, subst, Contains, append_assoc, append-nil, ap₂, Result, OnOk, length, get_or, drop, ◌<◌, arith}
 use Rattle.std.specs.List.{All, AllByRecursion}
 use Rattle.std.proofs.lemmas.Result.{on_ok_weaker}
 use Rattle.std.proofs.lemmas.Bool.{true_from_ne_false}
 use Rattle.std.proofs.lemmas.List.Elements.{All-drop, Contains-append_left, Contains-append_right}
 use Rattle.vector_clock.specs.Stamp.{IsStamp, is_below, same_id}
-use Rattle.vector_clock.proofs.Keys.{key_either, key_level, key_trans}
+use Rattle.vector_clock.proofs.Keys.{key_either, key_level, key_trans, key_weak}
 use Rattle.crdt_laws.specs.declared.small.Entry.{Entry}
 use Rattle.crdt_laws.specs.Sets.{AreApart, IsHonest, IsRising, canonical, union}
 use Rattle.crdt_laws.specs.Interleaved.{interleaved}
@@ -15,7 +15,7 @@ use Rattle.std.proofs.lemmas.List.Elements.{Contains-append_cases}
 use Rattle.crdt_laws.proofs.Place.{rising-canonical}
 use Rattle.crdt_laws.proofs.Members.{Contains-canonical, Contains-cases, Contains-front, Contains-more, at_member, each, rising_same}
 use Rattle.crdt_laws.proofs.Both.{honest_part, rising_apart, union_elements, union_rises}
-use Rattle.vector_clock.proofs.Ordered.{all_weaker}
+use Rattle.vector_clock.proofs.Ordered.{all_weaker, rising_at}
 
 pub interleaved-none : {Op : Type 0} (xs : List (Entry Op)) → interleaved xs [] ≡ xs
 interleaved-none [] = refl
@@ -191,3 +191,23 @@ level_ok r to to' xs ys xs' ys' x y f h i d e m = on_ok_weaker r (level_step to 
 
 pub stamps_left : {Op : Type 0} (xs ys : List (Entry Op)) → ys ≡ drop 1 xs → All (λ e. IsStamp e.stamp) xs → All (λ e. IsStamp e.stamp) ys
 stamps_left {Op} xs ys e h = subst (λ (l : List (Entry Op)). All (λ e. IsStamp e.stamp) l) (sym e) (All-drop (λ (e : Entry Op). IsStamp e.stamp) 1 xs h)
+
+-- what stands before all of the second list stays in front
+before_head : {Op : Type 0} (xs ys : List (Entry Op)) (y : Entry Op) (i : ℕ) → i ≤ length xs → ((k : ℕ) → k < i → is_below (get_or xs k y).stamp y.stamp ≡ true)
+    → take i xs ++ interleaved (drop i xs) (y ∷ ys) ≡ interleaved xs (y ∷ ys)
+before_head xs ys y zero m b = refl
+before_head [] ys y (suc i) m b = absurd (omega arith)
+before_head (x ∷ xs) ys y (suc i) m b =
+    let first : is_below x.stamp y.stamp ≡ true = b 0 (omega arith) in
+    let ih : take i xs ++ interleaved (drop i xs) (y ∷ ys) ≡ interleaved xs (y ∷ ys) = before_head xs ys y i (omega arith) (λ k l. b (suc k) (omega arith)) in
+    rw first (ap (λ l. x ∷ l) ih)
+
+-- So does what stands before an entry whose key is at most that of the head.
+pub split_at : {Op : Type 0} (xs ys : List (Entry Op)) (y : Entry Op) (i : ℕ) → Some y ≡ slice_get ys 0 → IsRising xs → i ≤ length xs
+    → ((k : ℕ) (d : Entry Op) → k < i → is_below y.stamp (get_or xs k d).stamp ≡ false) → take (i - 1) xs ++ interleaved (drop (i - 1) xs) ys ≡ interleaved xs ys
+split_at xs [] y i h r m b = cc
+split_at {Op} xs (z ∷ ys) y i h r m b =
+    let same : y ≡ z = cc in
+    before_head xs ys z (i - 1) (omega arith) (λ k l. key_weak (get_or xs k z).stamp (get_or xs (i - 1) z).stamp z.stamp
+    (rising_at (λ (e : Entry Op). e.stamp) xs z r k (i - 1) (omega arith) (omega arith))
+    (subst (λ (e : Entry Op). is_below e.stamp (get_or xs (i - 1) z).stamp ≡ false) same (b (i - 1) z (omega arith))))

@@ -1,11 +1,11 @@
-ghost use Rattle.std.specs.Prelude.{◌≡◌, IfOk, map};
+ghost use Rattle.std.specs.Prelude.{◌≡◌, IfOk, OnOk, map};
 ghost use Rattle.std.specs.List.{filter};
 ghost use Rattle.vector_clock.specs.Stamp.{IsStamp};
 ghost use Rattle.crdt_laws.specs.Document.{MakesDocument, MayFollow, is_at};
 ghost use Rattle.crdt_laws.specs.Entry.{entry};
 ghost use Rattle.crdt_laws.specs.Present.{acted, acted_by, document, present, with_next};
 ghost use Rattle.crdt_laws.specs.Sets.{AreIssued};
-ghost use Rattle.crdt_laws.specs.Tower.{IsIssued};
+ghost use Rattle.crdt_laws.specs.Tower.{IsIssued, IsState};
 
 use crate::small::{Entry, NoMemory, Ops};
 use crate::tower::Tower;
@@ -68,24 +68,43 @@ pub fn present_form<T: Tower>(
     Ok(form)
 }
 
-/// The forms, acted on by one more. `NoMemory` comes where it runs out of memory.
+/// The form acts on each entry of a lower level, where it stands. After it ran out of memory it has acted on some.
+fn act_on_lower<T: Tower>(
+    alloc: Global,
+    tower: &T,
+    entries: &mut [Entry<T::Op>],
+    stamp: &Stamp,
+    form: &T::Op,
+) -> Result<(), NoMemory>
+    requires before { AreIssued (T.meaning tower.now) stamp.now.clock.n entries.old }
+    requires issued { IsIssued (T.meaning tower.now) stamp.now.clock.n stamp.now form.now }
+    ensures { OnOk result (entries.new ≡ map (acted (T.meaning tower.now) (entry stamp.now form.now)) entries.old) }
+{
+    let level = tower.level(form);
+    for e in entries.iter_mut() {
+        if tower.level(&e.op) < level {
+            e.op = tower.act(alloc, form, &e.op)?;
+        }
+    }
+    Ok(())
+}
+
+/// The forms once one more has acted on those of lower levels, each where it stands. `NoMemory` comes where it runs out of
+/// memory.
 pub fn acted_forms<T: Tower>(
     alloc: Global,
     tower: &T,
-    forms: &[Entry<T::Op>],
+    forms: Ops<T::Op>,
     stamp: &Stamp,
     form: &T::Op,
 ) -> Result<Ops<T::Op>, NoMemory>
-    requires before { AreIssued (T.meaning tower.now) stamp.now.clock.n forms.now }
+    requires before { AreIssued (T.meaning tower.now) stamp.now.clock.n forms }
     requires issued { IsIssued (T.meaning tower.now) stamp.now.clock.n stamp.now form.now }
-    ensures { IfOk result (λ es. es ≡ map (acted (T.meaning tower.now) (entry stamp.now form.now)) forms.now) }
+    ensures { IfOk result (λ es. es ≡ map (acted (T.meaning tower.now) (entry stamp.now form.now)) forms) }
 {
-    let mut kept = Ops::new(alloc);
-    for e in forms.iter() {
-        let op = tower.act(alloc, form, &e.op)?;
-        kept.push(e.stamp, op)?;
-    }
-    Ok(kept)
+    let mut forms = forms;
+    act_on_lower(alloc, tower, forms.items.as_mut_slice(), stamp, form)?;
+    Ok(forms)
 }
 
 /// The state after the operation in its present form, and the forms of all operations once it is in.
@@ -93,17 +112,17 @@ fn apply_next<T: Tower>(
     alloc: Global,
     tower: &T,
     state: T::State,
-    forms: &Ops<T::Op>,
+    forms: Ops<T::Op>,
     e: &Entry<T::Op>,
 ) -> Result<(T::State, Ops<T::Op>), NoMemory>
-    requires { MayFollow (T.meaning tower.now) state forms.now e.now }
-    ensures state { IfOk result (λ p. p.0 ≡ (T.meaning tower.now).apply state e.now.stamp (present (T.meaning tower.now) forms.now e.now).op) }
-    ensures forms { IfOk result (λ p. p.1 ≡ with_next (T.meaning tower.now) forms.now e.now) }
+    requires { MayFollow (T.meaning tower.now) state forms e.now }
+    ensures state { IfOk result (λ p. p.0 ≡ (T.meaning tower.now).apply state e.now.stamp (present (T.meaning tower.now) forms e.now).op) }
+    ensures forms { IfOk result (λ p. p.1 ≡ with_next (T.meaning tower.now) forms e.now) }
 {
     let op = tower.copy_op(alloc, &e.op)?;
     let form = present_form(alloc, tower, forms.as_slice(), &e.stamp, op)?;
     let next = tower.apply(alloc, state, &e.stamp, &form)?;
-    let mut kept = acted_forms(alloc, tower, forms.as_slice(), &e.stamp, &form)?;
+    let mut kept = acted_forms(alloc, tower, forms, &e.stamp, &form)?;
     kept.push(e.stamp, form)?;
     Ok((next, kept))
 }
@@ -113,13 +132,14 @@ fn apply_next<T: Tower>(
 /// times the levels.
 pub fn document<T: Tower>(alloc: Global, tower: &T, ops: &Ops<T::Op>) -> Result<T::State, NoMemory>
     requires { MakesDocument (T.meaning tower.now) ops.now }
-    ensures { IfOk result (λ s. s ≡ document (T.meaning tower.now) ops.now) }
+    ensures document { IfOk result (λ s. s ≡ document (T.meaning tower.now) ops.now) }
+    ensures state { IfOk result (λ s. IsState (T.meaning tower.now) s) }
 {
     let mut state = tower.init(alloc)?;
     let mut forms = Ops::new(alloc);
     let entries = ops.as_slice();
     for e in entries {
-        let (next, kept) = apply_next(alloc, tower, state, &forms, e)?;
+        let (next, kept) = apply_next(alloc, tower, state, forms, e)?;
         state = next;
         forms = kept;
     }

@@ -47,16 +47,14 @@ fn joins_sets_by_key(rt: HostRuntime) -> Result<(), Fail> {
         clock: knows(2, 1),
     };
     let ends = union(
-        rt.alloc(),
         alone(rt.alloc(), after, 3)?,
         alone(rt.alloc(), first, 1)?,
     )?;
     let starts = union(
-        rt.alloc(),
         alone(rt.alloc(), first, 1)?,
         alone(rt.alloc(), beside, 2)?,
     )?;
-    let all = union(rt.alloc(), ends, starts)?;
+    let all = union(ends, starts)?;
     let mut ops = List::new(rt.alloc());
     for Entry { stamp: _, op } in all.as_slice() {
         ops.push(*op)?;

@@ -1,4 +1,4 @@
-ghost use Rattle.std.specs.Prelude.{◌≡◌, ◌+◌, ◌<◌, ◌++◌, ◌∷◌, [], ◌⊎◌, IfOk, List, OnOk, drop};
+ghost use Rattle.std.specs.Prelude.{◌≡◌, ◌+◌, ◌<◌, ◌≤◌, ◌++◌, ◌∷◌, [], ◌⊎◌, IfOk, List, OnOk, drop, length, take};
 ghost use Rattle.std.specs.List.{All, Contains};
 ghost use Rattle.std.specs.VecDeque.{deque_len};
 ghost use Rattle.vector_clock.specs.Stamp.{IsStamp};
@@ -7,8 +7,8 @@ ghost use Rattle.crdt_laws.specs.Interleaved.{interleaved};
 ghost use Rattle.crdt_laws.specs.Sets.{IsHonest, IsRising, union};
 
 use crate::small::{Entry, NoMemory, Ops};
-use std::alloc::Global;
 use std::collections::VecDeque;
+use vector_clock::place_of;
 
 /// Moves the first entry, where there is one, to the end of the list.
 fn move_front<Op: Drop>(from: &mut VecDeque<Entry<Op>>, to: &mut Ops<Op>) -> Result<(), NoMemory>
@@ -61,9 +61,38 @@ fn move_all<Op: Drop>(from: VecDeque<Entry<Op>>, to: &mut Ops<Op>) -> Result<(),
     Ok(())
 }
 
+/// A place in the first list before which all entries stand before those of the second one.
+fn tail_place<Op>(xs: &[Entry<Op>], ys: &[Entry<Op>]) -> usize
+    requires left_rises { IsRising xs.now }
+    requires left_stamps { All (λ e. IsStamp e.stamp) xs.now }
+    requires right_stamps { All (λ e. IsStamp e.stamp) ys.now }
+    ensures within { result ≤ length xs.now }
+    ensures same { take result xs.now ++ interleaved (drop result xs.now) ys.now ≡ interleaved xs.now ys.now }
+{
+    match ys.first() {
+        Some(y) => place_of(xs, &y.stamp).saturating_sub(1),
+        None => xs.len(),
+    }
+}
+
+/// The first list in two parts, of which the first one stands before all of the second list.
+fn split_off_tail<Op: Drop>(xs: Ops<Op>, ys: &Ops<Op>) -> Result<(Ops<Op>, Ops<Op>), NoMemory>
+    requires left_rises { IsRising xs }
+    requires left_stamps { All (λ e. IsStamp e.stamp) xs }
+    requires right_stamps { All (λ e. IsStamp e.stamp) ys.now }
+    ensures same { IfOk result (λ p. p.0 ++ interleaved p.1 ys.now ≡ interleaved xs ys.now) }
+    ensures stamps { IfOk result (λ p. All (λ e. IsStamp e.stamp) p.1) }
+{
+    let at = tail_place(xs.as_slice(), ys.as_slice());
+    let Ops { items: mut front } = xs;
+    let tail = front.split_off(at)?;
+    Ok((Ops { items: front }, Ops { items: tail }))
+}
+
 /// The union of two sets of operations, by rising key. Each set is given by rising key. Where both hold one operation it
-/// stands once. `NoMemory` comes where it runs out of memory. It takes one pass over both.
-pub fn union<Op: Drop>(alloc: Global, xs: Ops<Op>, ys: Ops<Op>) -> Result<Ops<Op>, NoMemory>
+/// stands once. `NoMemory` comes where it runs out of memory. It takes one pass over the second set and over what stands in the
+/// first one from the beginning of the second on.
+pub fn union<Op: Drop>(xs: Ops<Op>, ys: Ops<Op>) -> Result<Ops<Op>, NoMemory>
     requires left_rises { IsRising xs }
     requires right_rises { IsRising ys }
     requires left_stamps { All (λ e. IsStamp e.stamp) xs }
@@ -74,11 +103,9 @@ pub fn union<Op: Drop>(alloc: Global, xs: Ops<Op>, ys: Ops<Op>) -> Result<Ops<Op
     ensures from { IfOk result (λ r. (e : Entry Op) → Contains r e → Contains xs e ⊎ Contains ys e) }
     ensures stamps { IfOk result (λ r. All (λ e. IsStamp e.stamp) r) }
 {
-    let Ops { items } = xs;
-    let mut left = VecDeque::from(items);
-    let Ops { items } = ys;
-    let mut right = VecDeque::from(items);
-    let mut joined = Ops::new(alloc);
+    let (mut joined, tail) = split_off_tail(xs, &ys)?;
+    let mut left = VecDeque::from(tail.items);
+    let mut right = VecDeque::from(ys.items);
     while !left.is_empty() && !right.is_empty() {
         move_next(&mut left, &mut right, &mut joined)?;
     }

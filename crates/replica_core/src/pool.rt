@@ -83,8 +83,8 @@ pub(crate) fn sift<Op: Drop>(
     ensures ready_from { IfOk result (λ x. (e : Entry Op) → Contains x.0 e → Contains ((delivered ++ waiting) ++ arrived) e) }
     ensures unready_from { IfOk result (λ x. (e : Entry Op) → Contains x.1 e → Contains ((delivered ++ waiting) ++ arrived) e) }
 {
-    let own = union(alloc, delivered, waiting)?;
-    let all = union(alloc, own, arrived)?;
+    let own = union(delivered, waiting)?;
+    let all = union(own, arrived)?;
     let front = frontier(n, all.as_slice());
     split(alloc, all, &front)
 }

@@ -3,6 +3,5 @@ pub mod Kept
 pub mod FoldPlain
 pub mod Split
 pub mod Runs
-pub mod Changed
 pub mod Delivered
 pub mod Again

@@ -13,17 +13,17 @@ fn fold_next<T: Tower>(
     alloc: Global,
     tower: &T,
     state: T::State,
-    history: &Ops<T::Op>,
+    history: Ops<T::Op>,
     e: &Entry<T::Op>,
 ) -> Result<(T::State, Ops<T::Op>), NoMemory>
-    requires { MayFollow (T.meaning tower.now) state history.now e.now }
-    ensures state { IfOk result (λ p. p.0 ≡ (T.meaning tower.now).apply state e.now.stamp (present (T.meaning tower.now) history.now e.now).op) }
-    ensures history { IfOk result (λ p. p.1 ≡ kept_with (T.meaning tower.now) history.now e.now) }
+    requires { MayFollow (T.meaning tower.now) state history e.now }
+    ensures state { IfOk result (λ p. p.0 ≡ (T.meaning tower.now).apply state e.now.stamp (present (T.meaning tower.now) history e.now).op) }
+    ensures history { IfOk result (λ p. p.1 ≡ kept_with (T.meaning tower.now) history e.now) }
 {
     let op = tower.copy_op(alloc, &e.op)?;
     let form = present_form(alloc, tower, history.as_slice(), &e.stamp, op)?;
     let next = tower.apply(alloc, state, &e.stamp, &form)?;
-    let mut kept = acted_forms(alloc, tower, history.as_slice(), &e.stamp, &form)?;
+    let mut kept = acted_forms(alloc, tower, history, &e.stamp, &form)?;
     if tower.level(&form) >= 2 {
         kept.push(e.stamp, form)?;
     }
@@ -48,7 +48,7 @@ pub fn fold_plain<T: Tower>(
     let mut history = Ops::new(alloc);
     let entries = ops.as_slice();
     for e in entries {
-        let (next, kept) = fold_next(alloc, tower, state, &history, e)?;
+        let (next, kept) = fold_next(alloc, tower, state, history, e)?;
         state = next;
         history = kept;
     }

@@ -6,7 +6,7 @@ ghost use Rattle.crdt_laws.specs.Sets.{AreIssued, IsRising, place};
 ghost use Rattle.crdt_laws.specs.Tower.{IsIssued};
 ghost use Rattle.weave_model.specs.Deliver.{is_high};
 
-use crdt_laws::{Entry, NoMemory, Ops, Tower, beyond, place_in, present_form};
+use crdt_laws::{NoMemory, Ops, Tower, acted_forms, beyond, place_in, present_form};
 use std::alloc::Global;
 use std::marker::Model;
 use vector_clock::{Clock, Stamp};
@@ -27,44 +27,6 @@ impl<T: Tower> Model for Woven<T> {
     ghost view = { λ w. record { state = w.state; history = w.history } };
 }
 
-/// The form acts on each entry of a lower level, where it stands. After it ran out of memory it has acted on some.
-fn act_on_lower<T: Tower>(
-    alloc: Global,
-    tower: &T,
-    entries: &mut [Entry<T::Op>],
-    stamp: &Stamp,
-    form: &T::Op,
-) -> Result<(), NoMemory>
-    requires before { AreIssued (T.meaning tower.now) stamp.now.clock.n entries.old }
-    requires issued { IsIssued (T.meaning tower.now) stamp.now.clock.n stamp.now form.now }
-    ensures { OnOk result (entries.new ≡ map (acted (T.meaning tower.now) (entry stamp.now form.now)) entries.old) }
-{
-    let level = tower.level(form);
-    for e in entries.iter_mut() {
-        if tower.level(&e.op) < level {
-            e.op = tower.act(alloc, form, &e.op)?;
-        }
-    }
-    Ok(())
-}
-
-/// The entries once the form has acted on those of lower levels.
-fn acted_on<T: Tower>(
-    alloc: Global,
-    tower: &T,
-    entries: Ops<T::Op>,
-    stamp: &Stamp,
-    form: &T::Op,
-) -> Result<Ops<T::Op>, NoMemory>
-    requires before { AreIssued (T.meaning tower.now) stamp.now.clock.n entries }
-    requires issued { IsIssued (T.meaning tower.now) stamp.now.clock.n stamp.now form.now }
-    ensures { IfOk result (λ es. es ≡ map (acted (T.meaning tower.now) (entry stamp.now form.now)) entries) }
-{
-    let mut entries = entries;
-    act_on_lower(alloc, tower, entries.items.as_mut_slice(), stamp, form)?;
-    Ok(entries)
-}
-
 /// The history once the form is in: it acts on the entries of lower levels where they stand, and joins them by key. A form of
 /// level 1 leaves the history alone.
 fn joined<T: Tower>(
@@ -83,7 +45,7 @@ fn joined<T: Tower>(
     if tower.level(&form) < 2 {
         return Ok(history);
     }
-    let entries = acted_on(alloc, tower, history, &stamp, &form)?;
+    let entries = acted_forms(alloc, tower, history, &stamp, &form)?;
     place_in(entries, stamp, form)
 }
 

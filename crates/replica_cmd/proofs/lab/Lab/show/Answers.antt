@@ -36,7 +36,7 @@ returns-clause-answers c =
     let r = c.in-Some-Replica.replica in
     let found : thing_at lab c.args.file ≡ Some (family.replica r) = sym c.in-Some-Replica.ensures ∙ ap (λ t. Some (thing_of t)) c.in-Some-Replica.field-0-is in
     let state : c.in_ok-state.state ≡ document (number_meaning 0) r.delivered =
-    (rw (c.number.ensures.low, c.number.ensures.high) at c.in_ok-state.ensures) ∙ ap (λ (q : Replica NumberOp). document (number_meaning 0) q.delivered) c.replica.view_is in
+    (rw (c.number.ensures.low, c.number.ensures.high) at c.in_ok-state.ensures.document) ∙ ap (λ (q : Replica NumberOp). document (number_meaning 0) q.delivered) c.replica.view_is in
     let shown : view c.in_ok-shown.shown ≡ (number_meaning 0).show c.in_ok-state.state = rw c.number-2.ensures.low at c.in_ok-shown.ensures in
     ap (show_under (number_meaning 0) number_op lab c.args.file) found
     ∙ ap (λ v. Ok (effect lab (document_text v))) (sym (shown ∙ ap (number_meaning 0).show state))
