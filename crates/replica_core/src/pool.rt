@@ -1,4 +1,4 @@
-ghost use Rattle.std.specs.Prelude.{◌≡◌, ◌++◌, ◌≤◌, ℕ, IfOk, not};
+ghost use Rattle.std.specs.Prelude.{◌≡◌, ◌++◌, ◌≤◌, ℕ, IfOk, IsTrue, not};
 ghost use Rattle.std.specs.List.{All, Contains, filter};
 ghost use Rattle.vector_clock.specs.Clock.{IsClock, max_members};
 ghost use Rattle.crdt_laws.specs.declared.small.Entry.{Entry};
@@ -25,7 +25,7 @@ fn frontier<Op>(n: u8, ops: &[Entry<Op>]) -> Clock
     for e in ops.iter() {
         let id = e.stamp.id();
         if id.seq == front.count(id.member) + 1 {
-            front = front.with(id.member, id.seq);
+            front.at[usize::from(id.member)] = id.seq;
         }
     }
     front
@@ -40,8 +40,22 @@ fn is_ready<Op>(e: &Entry<Op>, front: &Clock) -> bool
     e.stamp.clock.le(front)
 }
 
-/// The operations that know only of operations before the frontier, and the others.
-fn split<Op: Drop>(
+/// Whether all know only of operations before the frontier.
+fn are_ready<Op>(ops: &[Entry<Op>], front: &Clock) -> bool
+    requires ops { All (IsFrom front.now.n) ops.now }
+    requires front { IsClock front.now }
+    ensures { IsTrue result → All (λ e. IsTrue (is_at_most e.stamp.clock front.now)) ops.now }
+{
+    for e in ops {
+        if !is_ready(e, front) {
+            return false;
+        }
+    }
+    true
+}
+
+/// The operations that know only of operations before the frontier, and the others, one by one.
+fn sort_out<Op: Drop>(
     alloc: Global,
     ops: Ops<Op>,
     front: &Clock,
@@ -62,6 +76,24 @@ fn split<Op: Drop>(
         }
     }
     Ok((ready, unready))
+}
+
+/// The operations that know only of operations before the frontier, and the others. Where there are no others nothing is moved.
+fn split<Op: Drop>(
+    alloc: Global,
+    ops: Ops<Op>,
+    front: &Clock,
+) -> Result<(Ops<Op>, Ops<Op>), NoMemory>
+    requires ops { All (IsFrom front.now.n) ops }
+    requires front { IsClock front.now }
+    ensures ready { IfOk result (λ x. x.0 ≡ filter (λ e. is_at_most e.stamp.clock front.now) ops) }
+    ensures unready { IfOk result (λ x. x.1 ≡ filter (λ e. not (is_at_most e.stamp.clock front.now)) ops) }
+{
+    if are_ready(ops.as_slice(), front) {
+        Ok((ops, Ops::new(alloc)))
+    } else {
+        sort_out(alloc, ops, front)
+    }
 }
 
 /// All operations once others have arrived: those that know only of operations among them, and the others. It takes one

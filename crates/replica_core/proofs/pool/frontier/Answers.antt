@@ -1,4 +1,5 @@
 use Rattle.std.proofs.Common.{◌≡◌, ◌∙◌, ◌+◌, ap, subst, sym}
+use Rattle.std.proofs.Math.ListN.{set}
 use Rattle.vector_clock.specs.declared.clock.Id.{Id}
 use Rattle.vector_clock.specs.Clock.{count, with_entry, zero_clock}
 use Rattle.vector_clock.specs.Stamp.{id_of}
@@ -33,7 +34,7 @@ loop-e-preserved g c =
     elim c.if-id-count.branch [
       | then-id-count w ↦
           (let is : c.if-id-count.front ≡ with_entry k e.stamp.member (count e.stamp.clock e.stamp.member) =
-          w.front-is ∙ w.with-front.ensures.made ∙ ap (λ (j : Id). with_entry k j.member j.seq) id in
+          w.front-is ∙ ap (λ i. record { n = k.n; at = set k.at i c.id-id.result.seq }) w.from.ensures ∙ ap (λ (j : Id). with_entry k j.member j.seq) id in
           record {
             frontier = more c.if-id-count.front (is ∙ counted_hit k e (sym seq ∙ w.if-id-count.true ∙ next));
             known = subst (IsKnown n) (sym is) (known-counted n k e c.loop-e.invariant.known from);

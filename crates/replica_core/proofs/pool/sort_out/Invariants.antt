@@ -1,7 +1,7 @@
 use Rattle.std.proofs.Common.{◌≡◌, not}
 use Rattle.std.specs.List.{filter}
 use Rattle.replica_core.specs.Frontier.{is_at_most}
-use Rattle.replica_core.proofs.pool.split.Given as goal
+use Rattle.replica_core.proofs.pool.sort_out.Given as goal
 
 abbrev pub invariant-loop-e : goal.invariant-loop-e
 invariant-loop-e g l = record {
