@@ -46,14 +46,8 @@ fn joins_sets_by_key(rt: HostRuntime) -> Result<(), Fail> {
         member: 0,
         clock: knows(2, 1),
     };
-    let ends = union(
-        alone(rt.alloc(), after, 3)?,
-        alone(rt.alloc(), first, 1)?,
-    )?;
-    let starts = union(
-        alone(rt.alloc(), first, 1)?,
-        alone(rt.alloc(), beside, 2)?,
-    )?;
+    let ends = union(alone(rt.alloc(), after, 3)?, alone(rt.alloc(), first, 1)?)?;
+    let starts = union(alone(rt.alloc(), first, 1)?, alone(rt.alloc(), beside, 2)?)?;
     let all = union(ends, starts)?;
     let mut ops = List::new(rt.alloc());
     for Entry { stamp: _, op } in all.as_slice() {
