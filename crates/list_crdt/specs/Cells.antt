@@ -1,5 +1,6 @@
 -- Things that stand at positions, by rising position: what stands before a position and after it, and what an edit there leaves.
-use Rattle.std.specs.Prelude.{Bool, List, [], ◌∷◌, ◌++◌, Option, None, Some}
+use Rattle.std.specs.Prelude.{ℕ, zero, suc, Bool, List, [], ◌∷◌, ◌++◌, Option, None, Some, slice_get}
+use Rattle.std.specs.Option.{option_map}
 use Rattle.std.specs.List.{AllPairs, filter}
 use Rattle.std.specs.Ordering.{is_lt}
 use Rattle.list_crdt.specs.declared.position.Step.{Step}
@@ -32,3 +33,11 @@ module _ {C : Type 0} (at : C → List Step) where
   -- each thing comes before all later ones
   abbrev pub IsRising : List C → Type 0
   IsRising s = AllPairs (λ a b. IsBefore (at a) (at b)) s
+
+  -- the position of the thing at the index, and that of the one before it
+  abbrev pub place : List C → ℕ → Option (List Step)
+  place s i = option_map at (slice_get s i)
+
+  abbrev pub place_before : List C → ℕ → Option (List Step)
+  place_before s zero = None
+  place_before s (suc i) = place s i

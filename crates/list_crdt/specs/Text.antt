@@ -1,8 +1,7 @@
 -- Texts: characters by rising position. A character is a Unicode scalar value.
-use Rattle.std.specs.Prelude.{◌≡◌, ℕ, zero, suc, true, false, List, [], map, Option, None, Some, IsTrue}
-use Rattle.std.specs.Prelude.{encode_utf8_all, slice_get}
+use Rattle.std.specs.Prelude.{◌≡◌, ℕ, true, false, List, [], map, Option, None, Some, IsTrue}
+use Rattle.std.specs.Prelude.{encode_utf8_all}
 use Rattle.std.specs.Char.{IsScalar}
-use Rattle.std.specs.Option.{option_map}
 use Rattle.std.specs.List.{All}
 use Rattle.serde_json.specs.Data.{string}
 use Rattle.vector_clock.specs.declared.clock.Clock.{Clock}
@@ -33,11 +32,10 @@ edited s (Delete p) = with_at p None s
 
 -- the position of the character at the index, and that of the one before it
 abbrev pub place : List Cell → ℕ → Option (List Step)
-place s i = option_map (λ c. c.at) (slice_get s i)
+place s i = cells.place at s i
 
 abbrev pub place_before : List Cell → ℕ → Option (List Step)
-place_before s zero = None
-place_before s (suc i) = place s i
+place_before s i = cells.place_before at s i
 
 -- each character comes before all later ones
 abbrev pub IsRising : List Cell → Type 0
