@@ -10,7 +10,7 @@ use Rattle.action_tables.specs.declared.written.WrittenOp.{WrittenOp}
 use Rattle.action_tables.specs.declared.written.WrittenTable.{WrittenTable}
 use Rattle.serde_json.specs.Find.{as_str, get}
 use Rattle.std.proofs.lemmas.Bool.Decides.{nat_tests}
-use Rattle.action_tables.specs.TableText.{elements, array_elements, each_of, member_count, key_count, field_of, byte_of, texts_of, ops_of, table_from, written_of}
+use Rattle.action_tables.specs.TableText.{elements, array_elements, each_of, member_count, key_count, field_of, byte_of, texts_of, ops_of, table_from, table_at, written_of}
 
 -- the elements of an array of values
 pub elements-items_view : (vs : List Value) → elements (items_view vs) ≡ map view vs
@@ -121,7 +121,12 @@ states_where : (b : Bool) (o : Option (List (List ℕ))) (p : Option ℕ) (q : O
 states_where true o p q w e = states_from o p q w e
 states_where false o p q w e = absurd (cc)
 
--- a table of the form has no more than 255 states
+-- a table of the form has no more than 255 states, and so has one that stands beside other keys
+pub few_states_at : (d : Data) (w : WrittenTable) → table_at d ≡ Some w → length w.states ≤ 255
+few_states_at d w e =
+    few_at (get (codes "states") d) w.states
+    (states_from (field_of texts_of (codes "states") d) (field_of byte_of (codes "start") d) (field_of ops_of (codes "ops") d) w e)
+
 pub few_states : (d : Data) (w : WrittenTable) → written_of d ≡ Some w → length w.states ≤ 255
 few_states d w e =
     few_at (get (codes "states") d) w.states

@@ -83,12 +83,14 @@ abbrev pub table_from : Option (List (List ℕ)) → Option ℕ → Option (List
 table_from (Some states) (Some start) (Some ops) = Some (record { states = states; start = start; ops = ops })
 table_from _ _ _ = None
 
+-- the table at the keys `ops`, `start` and `states`, whatever other keys there are
+abbrev pub table_at : Data → Option WrittenTable
+table_at d =
+    table_from (field_of texts_of (codes "states") d) (field_of byte_of (codes "start") d) (field_of ops_of (codes "ops") d)
+
 -- A table: an object with exactly the keys `ops`, `start` and `states`. Where it is none, the text has not the form.
 abbrev pub written_of : Data → Option WrittenTable
-written_of d =
-    if key_count d == 3 then
-    table_from (field_of texts_of (codes "states") d) (field_of byte_of (codes "start") d) (field_of ops_of (codes "ops") d)
-    else None
+written_of d = if key_count d == 3 then table_at d else None
 
 -- ---- What a text says, and what is at fault with it
 

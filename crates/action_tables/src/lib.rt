@@ -13,9 +13,12 @@ pub use lawful::LawfulTable;
 pub use laws::{
     form_of_tables, one_fault, one_reading, one_verdict, order_of_cases, table_is_lawful,
 };
-pub use named::{NamedTable, TableFault, is_name, named_table};
+pub use named::{NamedTable, TableFault, are_apart, are_names, is_name, name_table, named_table};
 pub use table::{Shape, Table, Verdict};
 pub use tower::TableTower;
+pub use written::{
+    WrittenOp, WrittenTable, array_elements, count_keys, table_at, text_at, texts_at,
+};
 
 #[cfg(test)]
 mod tests;

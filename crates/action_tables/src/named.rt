@@ -77,8 +77,8 @@ pub fn is_name(name: &[u8]) -> bool
             .all(|byte| matches!(byte, b'a'..=b'z' | b'0'..=b'9' | b'_'))
 }
 
-// Whether each of the texts is a name.
-fn are_names(texts: &[Txt]) -> bool
+/// Whether each of the texts is a name. It takes no memory.
+pub fn are_names(texts: &[Txt]) -> bool
     ensures { IsTrue result ↔ All IsName texts.now }
 {
     texts.iter().all(|text| is_name(&text.items))
@@ -91,8 +91,8 @@ fn is_same(a: &Txt, b: &Txt) -> bool
     a.items.as_slice() == b.items.as_slice()
 }
 
-// Whether no two of the texts are the same.
-fn are_apart(texts: &[Txt]) -> bool
+/// Whether no two of the texts are the same. It takes no memory.
+pub fn are_apart(texts: &[Txt]) -> bool
     ensures { IsTrue result ↔ AllPairs (λ a b. a ≢ b) texts.now }
 {
     for (at, text) in texts.iter().enumerate() {
@@ -153,8 +153,9 @@ fn columns_of(alloc: Global, ops: List<WrittenOp>) -> Result<Columns, NoMemory>
     })
 }
 
-// The table with its names, or the first fault that it has.
-fn name_table(alloc: Global, written: WrittenTable) -> Result<NamedTable, TableFault>
+/// The table with its names, or the first fault that it has, which is `Name`, `Twice` or `Shape`. `NoMemory` comes where it runs
+/// out of memory.
+pub fn name_table(alloc: Global, written: WrittenTable) -> Result<NamedTable, TableFault>
     requires { length written.states ≤ 255 }
     ensures accepted { OnOk result (IsAccepted written) }
     ensures table { IfOk result (λ t. t.table ≡ parts_of written) }

@@ -60,6 +60,20 @@ pub enum Verdict {
     },
 }
 
+impl fmt::Display for Verdict {
+    ghost use Rattle.std.specs.Prelude.{Some};
+    ghost use Rattle.action_tables.specs.FaultText.{verdict_text};
+
+    ghost output = { λ verdict. Some (verdict_text verdict) };
+
+    fn fmt<W: fmt::Write>(&self, f: &mut fmt::Formatter<W>) -> fmt::Result {
+        match self {
+            Verdict::Lawful => write!(f, "lawful"),
+            Verdict::Broken { law, a, b, c } => write!(f, "broken {law} {a} {b} {c}"),
+        }
+    }
+}
+
 /// A table of states and operations, both numbered from 0. Contracts see it as its two numbers and its three lists. That none of
 /// the faults of `Shape` is there, the type keeps.
 #[derive(Debug, Drop)]

@@ -1,13 +1,13 @@
 ghost use Rattle.std.specs.Prelude.{◌≡◌, IfOk, map, option_map, option_and_then};
 ghost use Rattle.serde_json.specs.View.{view};
 ghost use Rattle.serde_json.specs.Find.{as_str};
-ghost use Rattle.action_tables.specs.TableText.{byte_of, each_of, array_elements, short_elements, key_count, field_of, op_of, ops_of, bytes_of, texts_of, written_of};
+ghost use Rattle.action_tables.specs.TableText.{byte_of, each_of, array_elements, short_elements, key_count, field_of, op_of, ops_of, bytes_of, texts_of, table_at, written_of};
 
 use crdt_laws::{Bytes, List, Names, NoMemory, Txt};
 use serde_json::Value;
 use std::alloc::Global;
 
-// An operation as the text has it: nothing is known of its name, and the rows may have any length.
+/// An operation as the text has it: nothing is known of its name, and the rows may have any length.
 #[derive(Debug, Drop)]
 pub struct WrittenOp {
     pub name: Txt,
@@ -16,7 +16,7 @@ pub struct WrittenOp {
     pub act: Bytes,
 }
 
-// A table as the text has it.
+/// A table as the text has it.
 #[derive(Debug, Drop)]
 pub struct WrittenTable {
     pub states: Names,
@@ -31,8 +31,8 @@ fn read_byte(value: &Value) -> Option<u8>
     u8::try_from(value.as_u64()?).ok()
 }
 
-// How many keys the object has.
-fn count_keys(value: &Value) -> usize
+/// How many keys the object has, and 0 where the value is none. It takes no memory.
+pub fn count_keys(value: &Value) -> usize
     ensures { result ≡ key_count (view value.now) }
 {
     match value.as_object() {
@@ -53,8 +53,8 @@ fn read_text(alloc: Global, value: &Value) -> Result<Option<Txt>, NoMemory>
     }
 }
 
-// The elements of an array.
-fn array_elements(value: &Value) -> Option<&[Value]>
+/// The elements of an array, or None where the value is none. It takes no memory.
+pub fn array_elements(value: &Value) -> Option<&[Value]>
     ensures { option_map (λ v. map view v.now) result ≡ array_elements (view value.now) }
 {
     let items = value.as_array()?;
@@ -108,8 +108,8 @@ fn byte_at(object: &Value, key: &str) -> Option<u8>
     read_byte(object.get(key)?)
 }
 
-// The text at a key.
-fn text_at(alloc: Global, object: &Value, key: &str) -> Result<Option<Txt>, NoMemory>
+/// The text at a key of an object, or None where there is none. `NoMemory` comes where it runs out of memory.
+pub fn text_at(alloc: Global, object: &Value, key: &str) -> Result<Option<Txt>, NoMemory>
     ensures { IfOk result (λ o. o ≡ field_of as_str key.now (view object.now)) }
 {
     match object.get(key) {
@@ -142,8 +142,9 @@ fn bytes_at(alloc: Global, object: &Value, key: &str) -> Result<Option<Bytes>, N
     }
 }
 
-// The texts of the array at a key.
-fn texts_at(alloc: Global, object: &Value, key: &str) -> Result<Option<Names>, NoMemory>
+/// The texts of the array at a key of an object, or None where there is no array of at most 255 texts. `NoMemory` comes where it
+/// runs out of memory.
+pub fn texts_at(alloc: Global, object: &Value, key: &str) -> Result<Option<Names>, NoMemory>
     ensures { IfOk result (λ o. o ≡ field_of texts_of key.now (view object.now)) }
 {
     match short_elements_at(object, key) {
@@ -203,13 +204,11 @@ fn ops_at(alloc: Global, object: &Value, key: &str) -> Result<Option<List<Writte
     }
 }
 
-// The table of an object, where it has the form of one.
-pub fn read_table(alloc: Global, object: &Value) -> Result<Option<WrittenTable>, NoMemory>
-    ensures { IfOk result (λ o. o ≡ written_of (view object.now)) }
+/// The table at the keys `ops`, `start` and `states` of an object, whatever other keys it has, or None where these are not there
+/// or have another form. `NoMemory` comes where it runs out of memory.
+pub fn table_at(alloc: Global, object: &Value) -> Result<Option<WrittenTable>, NoMemory>
+    ensures { IfOk result (λ o. o ≡ table_at (view object.now)) }
 {
-    if count_keys(object) != 3 {
-        return Ok(None);
-    }
     let Some(states) = texts_at(alloc, object, "states")? else {
         return Ok(None);
     };
@@ -220,4 +219,14 @@ pub fn read_table(alloc: Global, object: &Value) -> Result<Option<WrittenTable>,
         return Ok(None);
     };
     Ok(Some(WrittenTable { states, start, ops }))
+}
+
+// The table of an object, where it has the form of one.
+pub fn read_table(alloc: Global, object: &Value) -> Result<Option<WrittenTable>, NoMemory>
+    ensures { IfOk result (λ o. o ≡ written_of (view object.now)) }
+{
+    if count_keys(object) != 3 {
+        return Ok(None);
+    }
+    table_at(alloc, object)
 }

@@ -1,0 +1,18 @@
+//! Schemas of documents: their names, how many members a document has, and what its fields are. A schema is read of a JSON text,
+//! of which each fault is told, and has canonical bytes.
+#![tactic(auto)]
+
+mod canonical;
+mod fault;
+mod field;
+mod kind;
+mod places;
+mod schema;
+mod written;
+
+pub use fault::{SchemaError, TableRefusal};
+pub use kind::{Field, Kind, Reset};
+pub use schema::Schema;
+
+#[cfg(test)]
+mod tests;
