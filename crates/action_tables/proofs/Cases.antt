@@ -51,7 +51,7 @@ module _ (t : ActionTable) where
   }
 
   -- a case that is not broken holds
-  holds_where : (k : Case) → ¬ (¬ Holds t k) → Holds t k
+  pub holds_where : (k : Case) → ¬ (¬ Holds t k) → Holds t k
   holds_where k h = record {
     upward = λ law. record {
       level = stable _ _ (λ no. h (λ holds. no (holds.upward law).level));

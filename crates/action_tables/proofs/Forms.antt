@@ -41,7 +41,7 @@ byte_is (string s) n e = absurd (cc)
 byte_is (array ds) n e = absurd (cc)
 byte_is (object ms) n e = absurd (cc)
 
-byte_from : (n : ℕ) → n ≤ 255 → byte_of (number (unsigned n)) ≡ Some n
+pub byte_from : (n : ℕ) → n ≤ 255 → byte_of (number (unsigned n)) ≡ Some n
 byte_from n h = cond-true (nat_le n 255) (Some n) None (le-leb n 255 h)
 
 pub str_is : (d : Data) (s : List ℕ) → as_str d ≡ Some s → d ≡ string s
@@ -80,7 +80,7 @@ short_is d ds e =
     let same : a.0 ≡ ds = cc in
     (array_is d a.0 a.1 ∙ ap (λ es. array (items_of es)) same, subst (λ es. length es ≤ 255) same (leb-true (length a.0) 255 h.0))
 
-short_from : (ds : List Data) → length ds ≤ 255 → short_elements (array (items_of ds)) ≡ Some ds
+pub short_from : (ds : List Data) → length ds ≤ 255 → short_elements (array (items_of ds)) ≡ Some ds
 short_from ds h =
     ap (option_and_then (λ es. if nat_le (length es) 255 then Some es else None)) (array_from ds)
     ∙ cond-true (nat_le (length ds) 255) (Some ds) None (le-leb (length ds) 255 h)
@@ -99,7 +99,7 @@ module _ {A : Type 0} (f : Data → Option A) (R : Data → A → Type 0) where
       map_is None x zs h = absurd (cc)
       map_is (Some ys) x zs h = (ys, refl, (let same : x ∷ ys ≡ zs = cc in same))
 
-  each_from : ((d : Data) (x : A) → R d x → f d ≡ Some x) → (ds : List Data) (xs : List A) → AllZip R ds xs → each_of f ds ≡ Some xs
+  pub each_from : ((d : Data) (x : A) → R d x → f d ≡ Some x) → (ds : List Data) (xs : List A) → AllZip R ds xs → each_of f ds ≡ Some xs
   each_from g [] [] h = refl
   each_from g [] (x ∷ xs) h = absurd h
   each_from g (d ∷ ds) [] h = absurd h
@@ -140,7 +140,7 @@ bytes_is d ns e =
     let b = bytes_are a.0 ns (each_is byte_of IsByte byte_is a.0 ns a.2) in
     (array_is d a.0 a.1 ∙ ap (λ ds. array (items_of ds)) b.0, b.1)
 
-bytes_from : (ns : List ℕ) → All (λ n. n ≤ 255) ns → bytes_of (numbers ns) ≡ Some ns
+pub bytes_from : (ns : List ℕ) → All (λ n. n ≤ 255) ns → bytes_of (numbers ns) ≡ Some ns
 bytes_from ns h =
     ap (option_and_then (each_of byte_of)) (array_from (map (λ n. number (unsigned n)) ns))
     ∙ each_from byte_of IsByte (λ d n k. ap byte_of k.0 ∙ byte_from n k.1) (map (λ n. number (unsigned n)) ns) ns (are_bytes ns h)

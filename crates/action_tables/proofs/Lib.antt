@@ -3,6 +3,7 @@ pub mod Decided
 pub mod Forms
 pub mod Keys
 pub mod Reading
+pub mod Searched
 pub mod Texts
 pub mod Verdicts
 pub mod Whole

@@ -13,7 +13,7 @@ use Rattle.action_tables.specs.Verdict.{HasFault}
 use Rattle.action_tables.specs.TableText.{IsJson, IsWritten, HasShapeFault, HasTextFault, HasWrittenFault, IsAccepted, Spells, written_of, parts_of}
 
 -- a text is one value, and one table
-value_alike : (text : List ℕ) (d e : Data) → IsJson text d → IsJson text e → d ≡ e
+pub value_alike : (text : List ℕ) (d e : Data) → IsJson text d → IsJson text e → d ≡ e
 value_alike text d e h j = let same : Some d ≡ Some e = sym h.1 ∙ j.1 in cc
 
 written_alike : (text : List ℕ) (w v : WrittenTable) → IsWritten text w → IsWritten text v → w ≡ v
@@ -34,7 +34,7 @@ outside_none t at table first = elim first.outside [
   | inr h ↦ omega (arith, h.2, table.entries.act (at - length t.next) (omega (arith, h.0, h.1)))
 ]
 
-faultless : (t : ActionTable) (f : Shape) → IsTable t → HasFault t f → ⊥
+pub faultless : (t : ActionTable) (f : Shape) → IsTable t → HasFault t f → ⊥
 faultless t Size table h = h table.sizes
 faultless t Level table h = h.1 table.levels
 faultless t (Entry at) table h = outside_none t at table h.2
@@ -48,7 +48,7 @@ first_at t i j h k = elim (cases_order i j) [
   | inr (inr high) ↦ absurd (h.first j high k.outside)
 ]
 
-fault_alike : (t : ActionTable) (f g : Shape) → HasFault t f → HasFault t g → f ≡ g
+pub fault_alike : (t : ActionTable) (f g : Shape) → HasFault t f → HasFault t g → f ≡ g
 fault_alike t Size Size h k = refl
 fault_alike t Size Level h k = absurd (h k.0)
 fault_alike t Size (Entry j) h k = absurd (h k.0)
@@ -59,7 +59,7 @@ fault_alike t (Entry i) Size h k = absurd (k h.0)
 fault_alike t (Entry i) Level h k = absurd (k.1 h.1)
 fault_alike t (Entry i) (Entry j) h k = ap Entry (first_at t i j h.2 k.2)
 
-shape_alike : (w : WrittenTable) (f g : Shape) → HasShapeFault w f → HasShapeFault w g → f ≡ g
+pub shape_alike : (w : WrittenTable) (f g : Shape) → HasShapeFault w f → HasShapeFault w g → f ≡ g
 shape_alike w f g (inl h) (inl k) = h.1 ∙ sym k.1
 shape_alike w f g (inl h) (inr k) = absurd (h.0 k.0)
 shape_alike w f g (inr h) (inl k) = absurd (k.0 h.0)

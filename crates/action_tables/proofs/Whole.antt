@@ -27,21 +27,21 @@ letter b = both (dec_le 97 b) (dec_le b 122)
 name_byte : (b : ℕ) → Dec (IsNameByte b)
 name_byte b = either (letter b) (either (both (dec_le 48 b) (dec_le b 57)) (same b 95))
 
-name : (xs : List ℕ) → Dec (IsName xs)
+pub name : (xs : List ℕ) → Dec (IsName xs)
 name xs =
     map_dec (λ h. record { some = h.0.0; most = h.0.1; first = h.1.0; each = h.1.1 }) (λ h. ((h.some, h.most), (h.first, h.each)))
     (both (both (dec_le 1 (length xs)) (dec_le (length xs) 32))
     (both (letter (slice_index xs 0)) (each_below (λ i. IsNameByte (slice_index xs i)) (λ i. name_byte (slice_index xs i)) (length xs))))
 
-names : (w : WrittenTable) → Dec (HasNames w)
+pub names : (w : WrittenTable) → Dec (HasNames w)
 names w = map_dec (λ h. record { states = h.0; ops = h.1 }) (λ h. (h.states, h.ops)) (both (all IsName name w.states) (all IsName name (op_names w.ops)))
 
-apart : (w : WrittenTable) → Dec (IsApart w)
+pub apart : (w : WrittenTable) → Dec (IsApart w)
 apart w =
     map_dec (λ h. record { states = h.0; ops = h.1 }) (λ h. (h.states, h.ops))
     (both (all_pairs (λ a b. a ≢ b) other w.states) (all_pairs (λ a b. a ≢ b) other (op_names w.ops)))
 
-rows : (w : WrittenTable) → Dec (HasRows w)
+pub rows : (w : WrittenTable) → Dec (HasRows w)
 rows w =
     map_dec (λ h. record { next = h.0; act = h.1 }) (λ h. (h.next, h.act))
     (both (all (λ (o : WrittenOp). length o.next ≡ length w.states) (λ o. same (length o.next) (length w.states)) w.ops)

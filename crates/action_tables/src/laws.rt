@@ -23,6 +23,7 @@ pub fn table_is_lawful(table: &LawfulTable)
 
 /// A table has one verdict: the least broken case is below every other. It is `Lawful` exactly where the five laws hold.
 pub fn one_verdict()
+    ensures whole { (t : ActionTable) → (v : Verdict) × IsVerdict t v }
     ensures one { (t : ActionTable) (v w : Verdict) → IsVerdict t v → IsVerdict t w → v ≡ w }
     ensures lawful { (t : ActionTable) → IsVerdict t Verdict.Lawful ↔ KeepsLaws t }
 {}

@@ -1,5 +1,5 @@
 -- What a schema keeps whose value was accepted.
-use Rattle.std.specs.Prelude.{◌≡◌, ◌≢◌, ℕ, ◌+◌, ◌==◌, ◌<◌, ◌≤◌, List, [], ◌∷◌, ◌++◌, map, length, get_or, Option, Some, None, Result, Ok, Err, codes}
+use Rattle.std.specs.Prelude.{◌≡◌, ◌≢◌, ℕ, ◌+◌, ◌==◌, ◌≤◌, List, [], ◌∷◌, ◌++◌, length, Option, Some, None, Ok, Err, codes}
 use Rattle.std.specs.List.{All, AllPairs, Contains}
 use Rattle.std.proofs.Common.{refl, ap, sym, ◌∙◌, subst, arith, inl, inr, length-append}
 use Rattle.std.proofs.lemmas.List.{map_push}
@@ -13,8 +13,8 @@ use Rattle.action_tables.proofs.Forms.{and_then_is, field_is, test_is}
 use Rattle.doc_schema.specs.declared.fault.SchemaError.{SchemaError}
 use Rattle.doc_schema.specs.declared.kind.Field.{Field}
 use Rattle.doc_schema.specs.declared.written.WrittenField.{WrittenField}
-use Rattle.doc_schema.specs.Form.{Head, field_form, fields_of, head_form, head_from, if_within, whole_of}
-use Rattle.doc_schema.specs.Schema.{AreMembers, FieldResult, FieldRules, FieldsResult, MadeResult, SchemaParts, ValueResult, field_names}
+use Rattle.doc_schema.specs.Form.{Head, fields_of, head_form, head_from, if_within, whole_of}
+use Rattle.doc_schema.specs.Schema.{AreMembers, FieldResult, FieldsResult, MadeResult, ValueResult, field_names}
 use Rattle.doc_schema.specs.Sound.{IsSchema, IsSoundField}
 use Rattle.doc_schema.proofs.Making.{within_is}
 

@@ -1,8 +1,11 @@
 pub mod Building
+pub mod Bytes
 pub mod Kept
 pub mod Lookups
 pub mod Making
 pub mod Names
 pub mod Plain
+pub mod Settled
 pub mod Shaped
 pub mod Steps
+pub mod Whole

@@ -1,12 +1,10 @@
 -- Kinds that are made of what was read.
-use Rattle.std.specs.Prelude.{◌≡◌, ◌≢◌, ℕ, ◌≤◌, ◌==◌, ◌&&◌, nat_le, Bool, true, false, if◌then◌else◌, List, [], ◌∷◌, map, length, Option, Some, None, option_map, option_and_then, codes}
-use Rattle.std.specs.List.{All, AllPairs}
-use Rattle.std.proofs.Common.{refl, ap, sym, ◌∙◌, subst, arith}
+use Rattle.std.specs.Prelude.{◌≡◌, ℕ, ◌≤◌, ◌==◌, ◌&&◌, nat_le, if◌then◌else◌, List, length, Option, Some, None, option_map, option_and_then, codes}
+use Rattle.std.proofs.Common.{refl, ap, sym, ◌∙◌, subst}
 use Rattle.std.proofs.lemmas.Bool.{and_parts, eqb-true, leb-true}
 use Rattle.std.proofs.lemmas.List.{length-map}
 use Rattle.serde_json.specs.Data.{Data}
 use Rattle.serde_json.specs.Find.{as_str, get}
-use Rattle.action_tables.specs.Name.{IsName}
 use Rattle.action_tables.specs.Table.{ActionTable, op_count}
 use Rattle.action_tables.specs.TableText.{IsAccepted, field_of, key_count, op_names, parts_of, table_at, texts_of}
 use Rattle.action_tables.specs.declared.lawful.LawfulTable.{LawfulTable}
@@ -31,8 +29,7 @@ pub sound_table : (w : WrittenTable) (t : ActionTable) (l : LawfulTable) (states
 sound_table w t l states ops a parts s o own =
     let same : l.table ≡ parts_of w = own ∙ parts in
     let states_named : AreNames w.states = record { each = a.names.states; apart = a.apart.states } in
-    let ops_named : AreNames (op_names w.ops) = record { each = a.names.ops; apart = a.apart.ops } in
-    (
+    let ops_named : AreNames (op_names w.ops) = record { each = a.names.ops; apart = a.apart.ops } in (
       ap length s ∙ sym (ap (λ (u : ActionTable). u.states) same),
       ap length o ∙ length-map w.ops (λ (p : WrittenOp). p.name) ∙ sym (length-map w.ops (λ (p : WrittenOp). p.level)) ∙ sym (ap op_count same),
       subst AreNames (sym s) states_named,
@@ -49,8 +46,7 @@ pub within_is : {A : Type 0} (low high : ℕ) (xs ys : List A) → if_within low
 within_is low high xs ys e =
     let t = test_is (nat_le low (length xs) && nat_le (length xs) high) (Some xs) ys e in
     let p = and_parts (nat_le low (length xs)) (nat_le (length xs) high) t.0 in
-    let same : xs ≡ ys = cc in
-    (
+    let same : xs ≡ ys = cc in (
       same,
       subst (λ zs. low ≤ length zs) same (leb-true low (length xs) p.0),
       subst (λ zs. length zs ≤ high) same (leb-true (length xs) high p.1),

@@ -4,7 +4,7 @@ use Rattle.std.specs.List.{All}
 use Rattle.std.proofs.Common.{refl, arith}
 use Rattle.std.proofs.lemmas.List.Elements.{All-drop, All-from_get_or, All-head, All-tail, All-take}
 use Rattle.json.proofs.Printed.Utf8.{IsUtf8-are_ascii, are_ascii}
-use Rattle.serde_json.specs.Data.{Data, Members, no_members, array, number, object, put, string, unsigned}
+use Rattle.serde_json.specs.Data.{Data, Members, no_members, array, number, put, string, unsigned}
 use Rattle.serde_json.specs.View.{items_of}
 use Rattle.action_tables.specs.Name.{IsName}
 use Rattle.action_tables.specs.Table.{ActionTable, EachBelow, IsTable, level_of, op_count}

@@ -3,7 +3,7 @@ use Rattle.std.specs.Prelude.{ℕ, List, [], ◌∷◌, codes, Option, Some, Non
 use Rattle.std.specs.List.{find}
 use Rattle.std.specs.Str.{bytes_eq}
 use Rattle.doc_schema.specs.declared.kind.Reset.{Reset}
-use Rattle.doc_schema.specs.declared.kind.Reset.TheVariants.{Never, Winning, Observed}
+use Rattle.doc_schema.specs.declared.kind.Reset.TheVariants.{Winning, Observed}
 use Rattle.doc_schema.specs.declared.kind.KindName.{KindName}
 use Rattle.doc_schema.specs.declared.kind.KindName.TheVariants.{Number, OnFlag, OffFlag, Choice, Table, Latest, Several, Text, Tally, Entries, Rich}
 use Rattle.doc_schema.specs.declared.kind.Kind.{Kind}

@@ -1,3 +1,4 @@
+pub mod BuiltIn
 pub mod Canonical
 pub mod FaultText
 pub mod Form

@@ -1,5 +1,5 @@
 -- What a text says of a schema, rule by rule, and what is at fault with it.
-use Rattle.std.specs.Prelude.{◌≡◌, ◌≢◌, ℕ, ◌<◌, ◌≤◌, ◌⊎◌, List, [], ◌∷◌, ◌++◌, map, length, Option, Some, None, unwrap_or, Result, Ok, Err}
+use Rattle.std.specs.Prelude.{◌≡◌, ◌≢◌, ℕ, ◌≤◌, ◌⊎◌, List, [], ◌∷◌, ◌++◌, map, length, Option, Some, None, unwrap_or, Result, Ok, Err}
 use Rattle.std.specs.List.{All, AllPairs, Contains}
 use Rattle.serde_json.specs.Data.{Data}
 use Rattle.action_tables.specs.Name.{IsName}
@@ -18,7 +18,7 @@ use Rattle.doc_schema.specs.declared.fault.TableRefusal.{TableRefusal}
 use Rattle.doc_schema.specs.declared.fault.TableRefusal.TheVariants as refusal
 use Rattle.doc_schema.specs.declared.fault.SchemaError.{SchemaError}
 use Rattle.doc_schema.specs.declared.fault.SchemaError.TheVariants.{Long, NotJson, Shape, Members, Modulus, Name, Twice, Table}
-use Rattle.doc_schema.specs.Form.{Head, field_form, head_form}
+use Rattle.doc_schema.specs.Form.{field_form, head_form}
 use Rattle.doc_schema.specs.Rules.{Demands, Follows, Reads}
 
 -- what contracts see of a schema

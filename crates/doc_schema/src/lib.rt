@@ -6,12 +6,14 @@ mod canonical;
 mod fault;
 mod field;
 mod kind;
+mod laws;
 mod places;
 mod schema;
 mod written;
 
 pub use fault::{SchemaError, TableRefusal};
 pub use kind::{Field, Kind, Reset};
+pub use laws::{built_in_bytes, one_reading, one_value};
 pub use schema::Schema;
 
 #[cfg(test)]

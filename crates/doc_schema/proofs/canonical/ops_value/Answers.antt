@@ -1,4 +1,4 @@
-use Rattle.std.proofs.Common.{ap, arith, length, get_or, sym, ◌≡◌, ◌<◌, ◌≤◌, ◌∙◌}
+use Rattle.std.proofs.Common.{ap, arith, length, get_or, ◌≡◌, ◌<◌, ◌≤◌, ◌∙◌}
 use Rattle.std.proofs.lemmas.List.{take_all}
 use Rattle.std.specs.Prelude.{List, ℕ}
 use Rattle.serde_json.specs.Data.{Data, array}

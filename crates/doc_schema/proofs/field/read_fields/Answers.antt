@@ -16,9 +16,9 @@ returns-in_err-field-clause-fault c =
     let p = err_from_is_err_and c.from_residual.result c.from_residual.ensures.1 in
     let e = c.in_err-field.field-0.0 in
     rw (p.1, p.2) (λ other. c.loop-value.invariant.kept (Err e)
-      (at_fault c.args.values.now c.loop-value.value-index c.value-item.result (omega arith) c.value-item.is c.loop-value.list e
-      (subst (λ (names : List (List ℕ)). FieldResult names (view c.value-item.result) (Err e)) c.loop-value.invariant.places
-      (c.in_err-field.ensures.fault other))))
+    (at_fault c.args.values.now c.loop-value.value-index c.value-item.result (omega arith) c.value-item.is c.loop-value.list e
+    (subst (λ (names : List (List ℕ)). FieldResult names (view c.value-item.result) (Err e)) c.loop-value.invariant.places
+    (c.in_err-field.ensures.fault other))))
 
 pub loop-value-preserved : goal.loop-value-preserved
 loop-value-preserved c = record {

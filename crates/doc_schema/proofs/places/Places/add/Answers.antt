@@ -1,4 +1,4 @@
-use Rattle.std.proofs.Common.{sym, ◌∙◌}
+use Rattle.std.proofs.Common.{◌∙◌}
 use Rattle.doc_schema.proofs.Lookups.{name_added}
 use Rattle.doc_schema.proofs.places.Places.add.Goals as goal
 

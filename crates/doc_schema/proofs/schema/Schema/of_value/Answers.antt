@@ -1,4 +1,4 @@
-use Rattle.std.proofs.Common.{ap, map, rules, subst, sym, ◌∙◌, Ok, Err}
+use Rattle.std.proofs.Common.{map, rules, subst, sym, Ok}
 use Rattle.std.proofs.lemmas.Result.{err_from_is_err_and}
 use Rattle.serde_json.specs.View.{view}
 use Rattle.action_tables.specs.Name.{IsName}
@@ -28,9 +28,8 @@ pub invariant_of-result : goal.invariant_of-result
 invariant_of-result c =
     let members : AreMembers c.in-Some.written.members = search rules in
     let named : IsName c.in-Some.written.doc.now = search rules in
-    let h : Head = record { doc = c.in-Some.written.doc.now; members = c.in-Some.written.members; fields = map view c.in-Some.written.fields.now } in
-    (
+    let h : Head = record { doc = c.in-Some.written.doc.now; members = c.in-Some.written.members; fields = map view c.in-Some.written.fields.now } in (
       kept (view c.args.value.now) h c.in_ok-list.field-0.list c.in_ok-doc.doc (sym c.in-Some.ensures) members named
-      c.in_ok-list.ensures.fields c.in_ok-list.ensures.sound c.in_ok-doc.ensures,
+          c.in_ok-list.ensures.fields c.in_ok-list.ensures.sound c.in_ok-doc.ensures,
       c.in_ok-list.ensures.places,
     )

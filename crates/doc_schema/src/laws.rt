@@ -1,0 +1,29 @@
+ghost use Rattle.std.specs.Prelude.{◌≡◌, ◌≤◌, ◌⊎◌, ℕ, List, codes, length};
+ghost use Rattle.serde_json.specs.Data.{Data};
+ghost use Rattle.action_tables.specs.TableText.{IsJson};
+ghost use Rattle.doc_schema.specs.BuiltIn.{pair, trio};
+ghost use Rattle.doc_schema.specs.Canonical.{canonical_text};
+ghost use Rattle.doc_schema.specs.Schema.{HasFault, SchemaParts, Spells};
+ghost use Rattle.doc_schema.specs.declared.fault.SchemaError.{SchemaError};
+
+/// Each text spells one schema, or has one fault, and never both.
+pub fn one_reading()
+    ensures whole { (text : List ℕ) → ((s : SchemaParts) × Spells text s) ⊎ ((fault : SchemaError) × HasFault text fault) }
+    ensures one { (text : List ℕ) (s t : SchemaParts) → Spells text s → Spells text t → s ≡ t }
+    ensures one_fault { (text : List ℕ) (f g : SchemaError) → HasFault text f → HasFault text g → f ≡ g }
+    ensures no_fault { (text : List ℕ) (s : SchemaParts) (fault : SchemaError) → Spells text s → ¬ HasFault text fault }
+{}
+
+/// The JSON value of a text is what counts: two texts of one value, neither of them too long, spell one schema, or have one fault.
+pub fn one_value()
+    ensures same { (text other : List ℕ) (d : Data) (s : SchemaParts) → IsJson text d → IsJson other d
+        → length other ≤ 65536 → Spells text s → Spells other s }
+    ensures same_fault { (text other : List ℕ) (d : Data) (fault : SchemaError) → IsJson text d → IsJson other d
+        → length text ≤ 65536 → length other ≤ 65536 → HasFault text fault → HasFault other fault }
+{}
+
+/// The canonical bytes of the two schemas that need no file, each with one number, called n.
+pub fn built_in_bytes()
+    ensures pair { canonical_text pair ≡ codes "{\"doc\":\"pair\",\"fields\":[{\"kind\":\"number\",\"name\":\"n\"}],\"members\":2}" }
+    ensures trio { canonical_text trio ≡ codes "{\"doc\":\"trio\",\"fields\":[{\"kind\":\"number\",\"name\":\"n\"}],\"members\":3}" }
+{}
