@@ -1,3 +1,4 @@
+pub mod Back
 pub mod Building
 pub mod Bytes
 pub mod Kept
@@ -5,7 +6,9 @@ pub mod Lookups
 pub mod Making
 pub mod Names
 pub mod Plain
+pub mod Rows
 pub mod Settled
 pub mod Shaped
 pub mod Steps
+pub mod Texts
 pub mod Whole

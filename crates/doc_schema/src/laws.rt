@@ -1,9 +1,10 @@
-ghost use Rattle.std.specs.Prelude.{◌≡◌, ◌≤◌, ◌⊎◌, ℕ, List, codes, length};
+ghost use Rattle.std.specs.Prelude.{◌≡◌, ◌≤◌, ◌⊎◌, ℕ, List, Ok, codes, length};
 ghost use Rattle.serde_json.specs.Data.{Data};
 ghost use Rattle.action_tables.specs.TableText.{IsJson};
 ghost use Rattle.doc_schema.specs.BuiltIn.{pair, trio};
 ghost use Rattle.doc_schema.specs.Canonical.{canonical_text};
-ghost use Rattle.doc_schema.specs.Schema.{HasFault, SchemaParts, Spells};
+ghost use Rattle.doc_schema.specs.Schema.{HasFault, SchemaParts, Spells, ValueResult};
+ghost use Rattle.doc_schema.specs.Sound.{IsSchema};
 ghost use Rattle.doc_schema.specs.declared.fault.SchemaError.{SchemaError};
 
 /// Each text spells one schema, or has one fault, and never both.
@@ -20,6 +21,14 @@ pub fn one_value()
         → length other ≤ 65536 → Spells text s → Spells other s }
     ensures same_fault { (text other : List ℕ) (d : Data) (fault : SchemaError) → IsJson text d → IsJson other d
         → length text ≤ 65536 → length other ≤ 65536 → HasFault text fault → HasFault other fault }
+{}
+
+/// The canonical bytes of a schema are JSON, and their value gives the schema again, so where they are not too long they spell it.
+/// Two schemas of the same canonical bytes are the same.
+pub fn canonical_form()
+    ensures value { (s : SchemaParts) → IsSchema s → (d : Data) × IsJson (canonical_text s) d × ValueResult d (Ok s) }
+    ensures spelled { (s : SchemaParts) → IsSchema s → length (canonical_text s) ≤ 65536 → Spells (canonical_text s) s }
+    ensures one { (s t : SchemaParts) → IsSchema s → IsSchema t → canonical_text s ≡ canonical_text t → s ≡ t }
 {}
 
 /// The canonical bytes of the two schemas that need no file, each with one number, called n.
