@@ -237,7 +237,7 @@ op_reads d o h =
 
 -- tables
 
-table_parts : (s : Option (List (List ℕ))) (f : Option ℕ) (o : Option (List WrittenOp)) (w : WrittenTable) → table_from s f o ≡ Some w
+pub table_parts : (s : Option (List (List ℕ))) (f : Option ℕ) (o : Option (List WrittenOp)) (w : WrittenTable) → table_from s f o ≡ Some w
     → (s ≡ Some w.states) × (f ≡ Some w.start) × (o ≡ Some w.ops)
 table_parts None f o w e = absurd (cc)
 table_parts (Some s) None o w e = absurd (cc)

@@ -29,7 +29,7 @@ module _ (d : Data) (h : Head) (reads : head_form d ≡ Some h) (members : AreMe
 
 -- ---- how many fields there are
 
-head_parts : (n : Option (List ℕ)) (m : Option ℕ) (f : Option (List Data)) (h : Head) → head_from n m f ≡ Some h
+pub head_parts : (n : Option (List ℕ)) (m : Option ℕ) (f : Option (List Data)) (h : Head) → head_from n m f ≡ Some h
     → (n ≡ Some h.doc) × (m ≡ Some h.members) × (f ≡ Some h.fields)
 head_parts None m f h e = absurd (cc)
 head_parts (Some n) None f h e = absurd (cc)

@@ -1,6 +1,7 @@
 pub mod Back
 pub mod Building
 pub mod Bytes
+pub mod Exact
 pub mod Kept
 pub mod Lookups
 pub mod Making

@@ -2,6 +2,7 @@ pub mod BuiltIn
 pub mod Canonical
 pub mod FaultText
 pub mod Form
+pub mod Keys
 pub mod Kinds
 pub mod Rules
 pub mod Schema

@@ -1,8 +1,12 @@
-ghost use Rattle.std.specs.Prelude.{◌≡◌, ◌≤◌, ◌⊎◌, ℕ, List, Ok, codes, length};
+ghost use Rattle.std.specs.Prelude.{◌≡◌, ◌≤◌, ◌⊎◌, ℕ, List, Ok, Some, codes, length};
 ghost use Rattle.serde_json.specs.Data.{Data};
 ghost use Rattle.action_tables.specs.TableText.{IsJson};
 ghost use Rattle.doc_schema.specs.BuiltIn.{pair, trio};
 ghost use Rattle.doc_schema.specs.Canonical.{canonical_text};
+ghost use Rattle.action_tables.specs.TableForm.{HasKeys};
+ghost use Rattle.doc_schema.specs.Form.{Head, field_form, head_form};
+ghost use Rattle.doc_schema.specs.Keys.{keys_of_field, schema_keys};
+ghost use Rattle.doc_schema.specs.declared.written.WrittenField.{WrittenField};
 ghost use Rattle.doc_schema.specs.Schema.{HasFault, SchemaParts, Spells, ValueResult};
 ghost use Rattle.doc_schema.specs.Sound.{IsSchema};
 ghost use Rattle.doc_schema.specs.declared.fault.SchemaError.{SchemaError};
@@ -21,6 +25,13 @@ pub fn one_value()
         → length other ≤ 65536 → Spells text s → Spells other s }
     ensures same_fault { (text other : List ℕ) (d : Data) (fault : SchemaError) → IsJson text d → IsJson other d
         → length text ≤ 65536 → length other ≤ 65536 → HasFault text fault → HasFault other fault }
+{}
+
+/// What has the form of a schema is an object with exactly the keys of one, and what has the form of a field an object with
+/// exactly the keys of such a field.
+pub fn form_of_schemas()
+    ensures schema { (d : Data) (h : Head) → head_form d ≡ Some h → HasKeys schema_keys d }
+    ensures field { (d : Data) (w : WrittenField) → field_form d ≡ Some w → HasKeys (keys_of_field w) d }
 {}
 
 /// The canonical bytes of a schema are JSON, and their value gives the schema again, so where they are not too long they spell it.

@@ -13,7 +13,7 @@ mod written;
 
 pub use fault::{SchemaError, TableRefusal};
 pub use kind::{Field, Kind, Reset};
-pub use laws::{built_in_bytes, canonical_form, one_reading, one_value};
+pub use laws::{built_in_bytes, canonical_form, form_of_schemas, one_reading, one_value};
 pub use schema::Schema;
 
 #[cfg(test)]
