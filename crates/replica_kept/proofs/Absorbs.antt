@@ -3,7 +3,7 @@ use Rattle.std.proofs.Common.{◌≡◌, ℕ, ◌+◌, ◌<◌, ◌≤◌, Bool,
 use Rattle.std.specs.List.{All}
 use Rattle.std.proofs.lemmas.List.Elements.{All-contains}
 use Rattle.vector_clock.specs.declared.clock.Clock.{Clock}
-use Rattle.vector_clock.specs.Clock.{IsAtMost, covers, max_members}
+use Rattle.vector_clock.specs.Clock.{IsAtMost, covers, zero_clock, max_members}
 use Rattle.vector_clock.specs.Stamp.{id_of}
 use Rattle.vector_clock.proofs.Bounds.{at_most_trans}
 use Rattle.crdt_laws.specs.declared.small.Entry.{Entry}
@@ -15,16 +15,17 @@ use Rattle.replica_model.proofs.Names.{all_from_contains}
 use Rattle.forgetting_model.specs.Kept.{Kept, kept_with}
 use Rattle.forgetting_model.specs.Ledger.{Ledger, come, ledger_with, own_row, raised, trimmed}
 use Rattle.forgetting_model.specs.Made.{kept_absorbed}
-use Rattle.forgetting_model.specs.Truth.{IsClockOf}
 use Rattle.forgetting_model.specs.Turns.{ledger_absorbed, taken}
 use Rattle.forgetting_model.proofs.Forgets.{in_beyond}
 use Rattle.forgetting_model.proofs.Raised.{raised_grows}
 use Rattle.forgetting_model.proofs.Rows.{AreRows, AreStamped, heard_header_rows, heard_rows, row_set_same, rows-set}
 use Rattle.replica_kept.specs.Held.{IsHeld}
 use Rattle.replica_kept.specs.Merging.{IsBatchOf, IsFaultless}
-use Rattle.replica_kept.specs.Sound.{AreKept, IsSound, burden, max_burden}
+use Rattle.replica_kept.specs.Sound.{AreKept, IsRow, IsSound, burden, max_burden}
+use Rattle.causal_buffer.proofs.Placed.{same_at}
 use Rattle.replica_kept.proofs.Coming
 use Rattle.replica_kept.proofs.Edits
+use Rattle.replica_kept.proofs.Within.{IsLow, low_after, low_raised, low_rows}
 use Rattle.replica_kept.proofs.Entering.{IsEntering, entered_apart, entered_count, entered_from, entered_rises}
 
 -- the rows after a batch
@@ -69,10 +70,17 @@ module _ {State Op : Type 0} (m : Meaning State Op) (law : IsLawful m) (k : Kept
   stamped e c = (All-contains Issued new e (Coming.taken_issued m law k sound b ok free) c).stamp
 
   heard_are : AreRows n (heard_header (heard k.ledger.known new) b.sender b.header later)
-  heard_are = heard_header_rows n (heard k.ledger.known new) (heard_rows n k.ledger.known new (record { length = refl; clocks = sound.rows }) stamped) b.sender b.header later ok.sender ok.header
+  heard_are = heard_header_rows n (heard k.ledger.known new) (heard_rows n k.ledger.known new (record { length = refl; clocks = λ i d l. (sound.rows i d l).clock }) stamped) b.sender b.header later ok.sender ok.header.clock
 
   pub rows_are : AreRows n rows
   rows_are = rows-set n (heard_header (heard k.ledger.known new) b.sender b.header later) heard_are k.ledger.me later (Coming.later_clock m law k sound b ok free)
+
+  rows_low : All (IsRow n) rows
+  rows_low i d l =
+      let low = low_after k.ledger.known new b.sender k.ledger.me b.header later (low_rows n k.ledger.known sound.rows)
+      (λ e c. (law.valid_within e.stamp e.op (All-contains Issued new e (Coming.taken_issued m law k sound b ok free) c).valid).each) ok.header.within
+      (low_raised (own_row k.ledger) new (low_rows n k.ledger.known sound.rows k.ledger.me) (λ e c. (law.valid_within e.stamp e.op (All-contains Issued new e (Coming.taken_issued m law k sound b ok free) c).valid).each)) in
+      record { clock = rows_are.clocks i d l; within = subst IsLow (same_at rows i (zero_clock 1) d l) (low i) }
 
   pub own_after : row rows k.ledger.me ≡ later
   own_after =
@@ -112,7 +120,7 @@ module _ {State Op : Type 0} (m : Meaning State Op) (law : IsLawful m) (k : Kept
       record {
         me = subst (λ (i : ℕ). k.ledger.me < i) (sym len) sound.me;
         most = subst (λ (i : ℕ). i ≤ max_members) (sym len) sound.most;
-        rows = subst (λ (i : ℕ). All (IsClockOf i) rows) (sym len) rows_are.clocks;
+        rows = subst (λ (i : ℕ). All (IsRow i) rows) (sym len) rows_low;
         held = subst (λ (c : Clock). IsHeld m c after.woven) (sym own_after) held;
         log = subst (λ (i : ℕ). AreKept m i (beyond f all)) (sym len) (record {
           issued = all_from_contains Issued (beyond f all) (λ e c. all_issued e (in_beyond f all e c).0);

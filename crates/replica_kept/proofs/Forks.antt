@@ -4,7 +4,7 @@ use Rattle.std.specs.Prelude.{filter}
 use Rattle.std.proofs.lemmas.Bool.{both_ways}
 use Rattle.std.proofs.lemmas.List.Elements.{All-contains}
 use Rattle.vector_clock.specs.declared.clock.Clock.{Clock}
-use Rattle.vector_clock.specs.Clock.{covers}
+use Rattle.vector_clock.specs.Clock.{covers, zero_clock}
 use Rattle.vector_clock.specs.Stamp.{id_of}
 use Rattle.crdt_laws.specs.declared.small.Entry.{Entry}
 use Rattle.crdt_laws.specs.Tower.{Meaning, IsIssued, IsStampOf}
@@ -15,10 +15,9 @@ use Rattle.replica_model.proofs.Names.{all_from_contains}
 use Rattle.replica_model.proofs.Ready.{covers_on}
 use Rattle.forgetting_model.specs.Kept.{Kept}
 use Rattle.forgetting_model.specs.Ledger.{own_row}
-use Rattle.forgetting_model.specs.Truth.{IsClockOf}
 use Rattle.forgetting_model.proofs.Tells.{covers_itself}
 use Rattle.replica_kept.specs.Merging.{HasNoOther, HasOther, IsBatchOf}
-use Rattle.replica_kept.specs.Sound.{IsSound}
+use Rattle.replica_kept.specs.Sound.{IsRow, IsSound}
 use Rattle.replica_kept.proofs.Entering.{filter_fewer}
 use Rattle.replica_kept.proofs.OneId.{none_both, none_of, other_left, other_right}
 
@@ -56,14 +55,14 @@ module _ {State Op : Type 0} (m : Meaning State Op) (k : Kept State Op) (sound :
     forgotten t low = none_both log waiting e (none_of (meet_all k.ledger.known) false log e sound.unstable (λ f. both_ways (covers (meet_all k.ledger.known) (id_of e.stamp)) f low)) (none_waits t)
 
   -- what is sent
-  module _ (doc : List ℕ) (sender : ℕ) (header : Clock) (ops : List (Entry Op)) (me : sender ≡ k.ledger.me) (clock : IsClockOf (length k.ledger.known) header) where
+  module _ (doc : List ℕ) (sender : ℕ) (header : Clock) (ops : List (Entry Op)) (me : sender ≡ k.ledger.me) (own_header : header ≡ own_row k.ledger) where
     abbrev n : ℕ
     n = length k.ledger.known
 
     pub batch_part : (p : Entry Op → Bool) → ops ≡ filter p k.ledger.log → IsBatchOf (length k.ledger.known) (record { doc = doc; sender = sender; header = header; ops = ops })
     batch_part p is = subst (λ (l : List (Entry Op)). IsBatchOf n (record { doc = doc; sender = sender; header = header; ops = l })) (sym is) (record {
       sender = subst (λ (i : ℕ). i < n) (sym me) sound.me;
-      header = clock;
+      header = subst (IsRow n) (sym own_header) (sound.rows k.ledger.me (zero_clock 1) sound.me);
       stamped = all_from_contains (λ (e : Entry Op). IsStampOf n e.stamp) (filter p log) (λ e c. (All-contains (λ (e : Entry Op). IsIssued m n e.stamp e.op) log e sound.log.issued (filter_inside p log e c)).stamp);
       rising = rising-filter p log sound.log.rising;
       apart = apart-filter p log sound.log.apart;
@@ -73,7 +72,7 @@ module _ {State Op : Type 0} (m : Meaning State Op) (k : Kept State Op) (sound :
     pub batch_whole : ops ≡ k.ledger.log → IsBatchOf (length k.ledger.known) (record { doc = doc; sender = sender; header = header; ops = ops })
     batch_whole is = subst (λ (l : List (Entry Op)). IsBatchOf n (record { doc = doc; sender = sender; header = header; ops = l })) (sym is) (record {
       sender = subst (λ (i : ℕ). i < n) (sym me) sound.me;
-      header = clock;
+      header = subst (IsRow n) (sym own_header) (sound.rows k.ledger.me (zero_clock 1) sound.me);
       stamped = all_from_contains (λ (e : Entry Op). IsStampOf n e.stamp) log (λ e c. (All-contains (λ (e : Entry Op). IsIssued m n e.stamp e.op) log e sound.log.issued c).stamp);
       rising = sound.log.rising;
       apart = sound.log.apart;

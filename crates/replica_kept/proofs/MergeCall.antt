@@ -21,7 +21,7 @@ use Rattle.history_trim.specs.Rows.{AreRows, rows_of}
 use Rattle.replica_kept.specs.Did.{merged_of}
 use Rattle.replica_kept.specs.Held.{IsHeld}
 use Rattle.replica_kept.specs.Merging.{IsBatchOf, IsFaultless}
-use Rattle.replica_kept.specs.Sound.{AreKept, IsSound, burden, max_burden}
+use Rattle.replica_kept.specs.Sound.{AreKept, IsSameMember, IsSound, burden, max_burden}
 use Rattle.replica_kept.proofs.Absorbs
 use Rattle.replica_kept.proofs.Absorbs.{rows_after}
 use Rattle.replica_kept.proofs.Coming
@@ -169,3 +169,12 @@ module _ {State Op : Type 0} (m : Meaning State Op) (law : IsLawful m) (kn : Kno
 
       pub sound_call : (r : Kept State Op) → r ≡ kept_absorbed m k b → IsHeld m (raised (own_row k.ledger) ready) r.woven → burden (ledger_absorbed k.ledger b) ≤ max_burden → IsSound m r
       sound_call r is held few = Absorbs.absorbed_sound m law k sound b ok free r is (subst (λ (l : List (Entry Op)). IsHeld m (raised (own_row k.ledger) l) r.woven) ready_is held) few
+
+      pub same_call : (r : Kept State Op) → r ≡ kept_absorbed m k b → IsSameMember r.ledger k.ledger
+      same_call r is =
+          let made = is ∙ Absorbs.after_is m law k sound b ok free in
+          record {
+            doc = ap (λ (z : Kept State Op). z.ledger.doc) made;
+            me = ap (λ (z : Kept State Op). z.ledger.me) made;
+            members = ap (λ (z : Kept State Op). length z.ledger.known) made ∙ (Absorbs.rows_are m law k sound b ok free).length;
+          }

@@ -9,9 +9,8 @@ use Rattle.crdt_laws.specs.Sets.{AreApart, IsRising}
 use Rattle.crdt_laws.specs.Tower.{Meaning, IsStampOf}
 use Rattle.replica_model.specs.Replica.{Batch}
 use Rattle.forgetting_model.specs.Ledger.{Ledger, own_row}
-use Rattle.forgetting_model.specs.Truth.{IsClockOf}
 use Rattle.forgetting_model.specs.Turns.{ledger_absorbed}
-use Rattle.replica_kept.specs.Sound.{burden, max_burden}
+use Rattle.replica_kept.specs.Sound.{IsRow, burden, max_burden}
 use Rattle.replica_kept.specs.declared.refusal.Refusal.{Refusal}
 use Rattle.replica_kept.specs.declared.refusal.Refusal.TheVariants.{SeqFull, BadOp, Rollback, Fork, Full, NoMemory}
 
@@ -19,7 +18,7 @@ use Rattle.replica_kept.specs.declared.refusal.Refusal.TheVariants.{SeqFull, Bad
 -- need not be valid.
 pub record IsBatchOf {Op : Type 0} (n : ℕ) (b : Batch Op) : Type 0 where
   pub sender : b.sender < n
-  pub header : IsClockOf n b.header
+  pub header : IsRow n b.header
   pub stamped : All (λ e. IsStampOf n e.stamp) b.ops
   pub rising : IsRising b.ops
   pub apart : AreApart b.ops

@@ -70,7 +70,7 @@ impl<T: Tower> Replica<T> {
     ghost use Rattle.replica_kept.specs.Held.{IsHeld};
     ghost use Rattle.replica_kept.specs.Merging.{HasNoOther, HasOther, IsBatchOf, IsFaultless, IsFirst, IsMergeCause, MayAbsorb};
     ghost use Rattle.replica_kept.specs.Did.{merged_of};
-    ghost use Rattle.replica_kept.specs.Sound.{IsSound, burden, max_burden, members};
+    ghost use Rattle.replica_kept.specs.Sound.{IsSameMember, IsSound, burden, max_burden, members};
     ghost use Rattle.replica_kept.specs.Steps.{IsGivenBack};
 
     /// Whether another operation of its id is kept or waits.
@@ -208,6 +208,7 @@ impl<T: Tower> Replica<T> {
         requires faultless { IsFaultless (T.meaning tower.now) self.ledger batch }
         ensures absorbed { IfOk result (λ r. IfOk r (λ x. x.0 ≡ kept_absorbed (T.meaning tower.now) self batch)) }
         ensures did { IfOk result (λ r. IfOk r (λ x. x.1 ≡ merged_of self.ledger batch)) }
+        ensures same { IfOk result (λ r. IfOk r (λ x. IsSameMember x.0.ledger self.ledger)) }
         ensures sound { IfOk result (λ r. IfOk r (λ x. IsSound (T.meaning tower.now) x.0)) }
         ensures few { IfOk result (λ r. IfOk r (λ x. burden (ledger_absorbed self.ledger batch) ≤ max_burden)) }
         ensures full { IfOk result (λ r. IfErr r (λ e. (e.0 ≡ self) × IsMergeCause (T.meaning tower.now) self.ledger batch e.1)) }
@@ -265,6 +266,7 @@ impl<T: Tower> Replica<T> {
         requires batch { IsBatchOf (members self.ledger) batch }
         ensures absorbed { IfOk result (λ x. x.0 ≡ kept_absorbed (T.meaning tower.now) self batch) }
         ensures did { IfOk result (λ x. x.1 ≡ merged_of self.ledger batch) }
+        ensures same { IfOk result (λ x. IsSameMember x.0.ledger self.ledger) }
         ensures sound { IfOk result (λ x. IsSound (T.meaning tower.now) x.0) }
         ensures accepted { IfOk result (λ x. MayAbsorb (T.meaning tower.now) self.ledger batch) }
         ensures refused { IfErr result (λ e. IsGivenBack (IsMergeCause (T.meaning tower.now) self.ledger batch) self e.0 e.1) }

@@ -13,9 +13,9 @@ returns-clause-batch g c =
     let log = ap (λ (z : Kept _ _). z.ledger.log) c.self.view_is in
     elim c.match-to.branch [
       | in-Some+in_ok-ops-in-Some w ↦
-          batch_part t c.args.self.now c.requires.sound c.in_ok-copy.field-0 c.self.inside.known.me c.clock.result c.match-to.ops me c.clock.ensures.clock (λ (e : Entry _). is_beyond w.row-known.result e)
+          batch_part t c.args.self.now c.requires.sound c.in_ok-copy.field-0 c.self.inside.known.me c.clock.result c.match-to.ops me c.clock.ensures.own (λ (e : Entry _). is_beyond w.row-known.result e)
           (w.ops-is ∙ w.in_ok-ops-in-Some.ensures ∙ ap (beyond w.row-known.result) (w.as_slice.ensures ∙ log))
       | in-None+in_ok-ops-in-None w ↦
-          batch_whole t c.args.self.now c.requires.sound c.in_ok-copy.field-0 c.self.inside.known.me c.clock.result c.match-to.ops me c.clock.ensures.clock
+          batch_whole t c.args.self.now c.requires.sound c.in_ok-copy.field-0 c.self.inside.known.me c.clock.result c.match-to.ops me c.clock.ensures.own
           (w.ops-is ∙ w.in_ok-ops-in-None.ensures ∙ w.as_slice-in-None.ensures ∙ log)
     ]

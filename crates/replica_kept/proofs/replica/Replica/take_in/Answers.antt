@@ -185,6 +185,21 @@ returns-clause-absorbed g c =
     let cs_is = c.in_ok-copies.ensures ∙ c.as_slice-2.ensures in
     MergeCall.absorbed_call t law kn c.self.invariant k me_is rows_are c.requires.sound b c.requires.batch c.requires.faultless c.clock-own.result c.clock-own.ensures.own c.in_ok-new.new c.in_ok-waiting.waiting c.in_ok-copies.copies new_is ws_is cs_is c.in_ok-come.come.ready c.in_ok-come.come.waiting c.in_ok-come.come.clock c.in_ok-come.ensures.ready c.in_ok-come.ensures.waiting c.in_ok-come.ensures.clock c.heard_all-known.result c.batch.inside.sender c.batch.inside.header c.as_slice-3.result.now (ap (λ (z : Batch _). z.sender) c.batch.view_is) (ap (λ (z : Batch _). z.header) c.batch.view_is) c.as_slice-3.ensures c.heard_all-known.ensures.rows c.heard_all-known.ensures.me c.in_ok-replica.replica c.in_ok-replica.ensures.kept
 
+pub returns-clause-same : goal.returns-clause-same
+returns-clause-same g c =
+    let t = g.T.Tower.meaning c.args.tower.now in
+    let law = g.met.T.Tower.lawful c.args.tower.now in
+    let kn = c.self.inside.known in
+    let k = c.args.self in
+    let b = c.args.batch in
+    let me_is = ap (λ (z : Kept _ _). z.ledger.me) c.self.view_is in
+    let rows_are = ap (λ (z : Kept _ _). z.ledger.known) c.self.view_is in
+    let new_is = c.in_ok-new.ensures ∙ ap (λ (l : List (Entry _)). filter (λ e. not (is_some (get by_id c.args.places.now (id_of e.stamp)))) (beyond c.clock-own.result l)) (ap (λ (z : Batch _). z.ops) c.batch.view_is)
+    ∙ ap (λ (d : Clock). filter (λ e. not (is_some (get by_id c.args.places.now (id_of e.stamp)))) (beyond d b.ops)) c.clock-own.ensures.own ∙ new_is k.ledger b c.args.places.now c.requires.places in
+    let ws_is = c.in_ok-waiting.ensures ∙ c.as_slice.ensures ∙ ap (λ (z : Kept _ _). z.ledger.waiting) c.self.view_is in
+    let cs_is = c.in_ok-copies.ensures ∙ c.as_slice-2.ensures in
+    MergeCall.same_call t law kn c.self.invariant k me_is rows_are c.requires.sound b c.requires.batch c.requires.faultless c.clock-own.result c.clock-own.ensures.own c.in_ok-new.new c.in_ok-waiting.waiting c.in_ok-copies.copies new_is ws_is cs_is c.in_ok-come.come.ready c.in_ok-come.come.waiting c.in_ok-come.come.clock c.in_ok-come.ensures.ready c.in_ok-come.ensures.waiting c.in_ok-come.ensures.clock c.heard_all-known.result c.batch.inside.sender c.batch.inside.header c.as_slice-3.result.now (ap (λ (z : Batch _). z.sender) c.batch.view_is) (ap (λ (z : Batch _). z.header) c.batch.view_is) c.as_slice-3.ensures c.heard_all-known.ensures.rows c.heard_all-known.ensures.me c.in_ok-replica.replica (MergeCall.absorbed_call t law kn c.self.invariant k me_is rows_are c.requires.sound b c.requires.batch c.requires.faultless c.clock-own.result c.clock-own.ensures.own c.in_ok-new.new c.in_ok-waiting.waiting c.in_ok-copies.copies new_is ws_is cs_is c.in_ok-come.come.ready c.in_ok-come.come.waiting c.in_ok-come.come.clock c.in_ok-come.ensures.ready c.in_ok-come.ensures.waiting c.in_ok-come.ensures.clock c.heard_all-known.result c.batch.inside.sender c.batch.inside.header c.as_slice-3.result.now (ap (λ (z : Batch _). z.sender) c.batch.view_is) (ap (λ (z : Batch _). z.header) c.batch.view_is) c.as_slice-3.ensures c.heard_all-known.ensures.rows c.heard_all-known.ensures.me c.in_ok-replica.replica c.in_ok-replica.ensures.kept)
+
 pub returns-clause-did : goal.returns-clause-did
 returns-clause-did g c =
     let t = g.T.Tower.meaning c.args.tower.now in
