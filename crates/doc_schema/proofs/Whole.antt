@@ -284,3 +284,8 @@ module _ (text other : List ℕ) (d : Data) (is : IsJson text d) (too : IsJson o
   pub same_schema : (s : SchemaParts) → length other ≤ 65536 → Spells text s → Spells other s
   same_schema s low (inl h) = absurd (let e = h.1 in cc)
   same_schema s low (inr h) = same_result (Ok s) h.0 low (inr h)
+
+-- a text that spells a schema is short
+pub short_text : (text : List ℕ) (s : SchemaParts) → Spells text s → length text ≤ 65536
+short_text text s (inl h) = absurd (let e = h.1 in cc)
+short_text text s (inr h) = h.0

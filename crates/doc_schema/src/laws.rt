@@ -42,8 +42,10 @@ pub fn canonical_form()
     ensures one { (s t : SchemaParts) → IsSchema s → IsSchema t → canonical_text s ≡ canonical_text t → s ≡ t }
 {}
 
-/// The canonical bytes of the two schemas that need no file, each with one number, called n.
+/// The canonical bytes of the two schemas that need no file, each with one number, called n. They spell these schemas.
 pub fn built_in_bytes()
     ensures pair { canonical_text pair ≡ codes "{\"doc\":\"pair\",\"fields\":[{\"kind\":\"number\",\"name\":\"n\"}],\"members\":2}" }
     ensures trio { canonical_text trio ≡ codes "{\"doc\":\"trio\",\"fields\":[{\"kind\":\"number\",\"name\":\"n\"}],\"members\":3}" }
+    ensures pair_spelled { Spells (canonical_text pair) pair }
+    ensures trio_spelled { Spells (canonical_text trio) trio }
 {}

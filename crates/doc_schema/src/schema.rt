@@ -15,6 +15,11 @@ use std::marker::Model;
 // How many bytes the text of a schema may have.
 const MOST_BYTES: usize = 65_536;
 
+// The canonical bytes of the schemas that need no file.
+const PAIR: &[u8] = br#"{"doc":"pair","fields":[{"kind":"number","name":"n"}],"members":2}"#;
+
+const TRIO: &[u8] = br#"{"doc":"trio","fields":[{"kind":"number","name":"n"}],"members":3}"#;
+
 /// The schema of a document. The type keeps that its parts are those of a text that is accepted. Contracts see it as its name,
 /// its members and its fields.
 #[derive(Drop)]
@@ -45,7 +50,8 @@ impl Schema {
     ghost use Rattle.std.specs.List.{Contains};
     ghost use Rattle.serde_json.specs.View.{view};
     ghost use Rattle.doc_schema.specs.Canonical.{canonical_text};
-    ghost use Rattle.doc_schema.specs.Schema.{HasFault, Spells, ValueResult, field_names};
+    ghost use Rattle.doc_schema.specs.BuiltIn.{pair, trio};
+    ghost use Rattle.doc_schema.specs.Schema.{HasFault, SchemaParts, Spells, ValueResult, field_names};
     ghost use Rattle.doc_schema.specs.Sound.{IsSchema};
 
     /// The schema that a JSON text of at most 4,294,967,295 bytes writes down: an object with exactly the keys `doc`, which is a
@@ -54,7 +60,8 @@ impl Schema {
     /// `choice`, `table`, `latest`, `several`, `text`, `tally`, `entries` and `rich`. A number and a tally may have a `modulus`
     /// of at least 2; a choice has 2 to 8 `values`, rich text 1 to 8 `marks`, and a table the keys of a table's own text. There
     /// is no other key, and of a key that stands twice the last value stays. What is wrong with a text that gives no schema is
-    /// looked at in the order of `SchemaError`.
+    /// looked at in the order of `SchemaError`. That each text spells a schema or has such a fault, and never both, is the law
+    /// [`one_reading`](crate::one_reading); the form is [`form_of_schemas`](crate::form_of_schemas).
     pub fn from_json(alloc: Global, text: &[u8]) -> Result<Schema, SchemaError>
         requires { length text.now < 2 ^ 32 }
         ensures spells { IfOk result (Spells text.now) }
@@ -73,6 +80,31 @@ impl Schema {
             Err(_) => return Err(SchemaError::NotJson),
         };
         Schema::of_value(alloc, &value)
+    }
+
+    /// The schema of one number, called n, for two members. `NoMemory` comes where it runs out of memory.
+    pub fn pair(alloc: Global) -> Result<Schema, NoMemory>
+        ensures { IfOk result (λ s. s ≡ pair) }
+    {
+        Schema::built_in(alloc, PAIR)
+    }
+
+    /// The same for three members.
+    pub fn trio(alloc: Global) -> Result<Schema, NoMemory>
+        ensures { IfOk result (λ s. s ≡ trio) }
+    {
+        Schema::built_in(alloc, TRIO)
+    }
+
+    // The schema of a text that spells one, and so has no fault: only memory can be wanting.
+    fn built_in(alloc: Global, text: &[u8]) -> Result<Schema, NoMemory>
+        requires { (s : SchemaParts) × Spells text.now s }
+        ensures { IfOk result (Spells text.now) }
+    {
+        match Schema::from_json(alloc, text) {
+            Ok(schema) => Ok(schema),
+            Err(_) => Err(NoMemory),
+        }
     }
 
     // The schema of a JSON value, or the first thing at fault with it.
@@ -115,7 +147,8 @@ impl Schema {
     }
 
     /// The canonical bytes of the schema: the compact JSON text of its object, whose keys stand by the order of their bytes.
-    /// `reset` and `modulus` are there only where they were given. `NoMemory` comes where it runs out of memory.
+    /// `reset` and `modulus` are there only where they were given. That they are read again as this schema is the law
+    /// [`canonical_form`](crate::canonical_form). `NoMemory` comes where it runs out of memory.
     pub fn canonical_bytes(&self, alloc: Global) -> Result<Txt, NoMemory>
         ensures { IfOk result (λ t. t ≡ canonical_text self.now) }
     {

@@ -308,6 +308,29 @@ fn has_canonical_bytes(rt: HostRuntime) -> Result<(), Fail> {
     Ok(())
 }
 
+#[test]
+fn makes_the_built_in_schemas(rt: HostRuntime) -> Result<(), Fail> {
+    let alloc = rt.alloc();
+    for (schema, members, want) in [
+        (
+            Schema::pair(alloc)?,
+            2,
+            r#"{"doc":"pair","fields":[{"kind":"number","name":"n"}],"members":2}"#,
+        ),
+        (
+            Schema::trio(alloc)?,
+            3,
+            r#"{"doc":"trio","fields":[{"kind":"number","name":"n"}],"members":3}"#,
+        ),
+    ] {
+        assert_eq!(rt; schema.members(), members);
+        let bytes = schema.canonical_bytes(alloc)?;
+        assert_eq!(rt; bytes.items.len(), 66);
+        assert_eq!(rt; bytes.items.as_slice(), want.as_bytes());
+    }
+    Ok(())
+}
+
 // A text of this many fields, with this many blanks before it.
 fn many_fields(alloc: Global, fields: usize, blanks: usize) -> Result<String, Fail> {
     let mut text = String::new(alloc);
