@@ -13,12 +13,12 @@ module _ {A : Type 0} where
   pub record IsField (g : Grammar A) : Type 0 where
     pub each : (i : Input) (f : Fault) → g.read i ≡ Stop f → place f ≡ i.at
 
-  from_later : (a b : ℕ) (o : Outcome A) → a ≤ b → IsFrom b o → IsFrom a o
+  pub from_later : (a b : ℕ) (o : Outcome A) → a ≤ b → IsFrom b o → IsFrom a o
   from_later a b (Got x j) le h = omega arith
   from_later a b (Stop f) le h = omega arith
 
 module _ {A B : Type 0} (f : A → Input → Outcome B) where
-  from_bind : (a : ℕ) (o : Outcome A) → IsFrom a o → ((x : A) (j : Input) → IsFrom j.at (f x j)) → IsFrom a (o >>= f)
+  pub from_bind : (a : ℕ) (o : Outcome A) → IsFrom a o → ((x : A) (j : Input) → IsFrom j.at (f x j)) → IsFrom a (o >>= f)
   from_bind a (Got x j) h k = from_later a j.at (f x j) h (k x j)
   from_bind a (Stop e) h k = h
 
