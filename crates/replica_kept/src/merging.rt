@@ -254,8 +254,7 @@ impl<T: Tower> Replica<T> {
     /// operations would be kept or wait. An operation that the floor covers is no fork, since nothing of it is kept.
     /// `NoMemory` may come besides, and then nothing comes back.
     ///
-    /// It takes time in proportion to the batch, what waits and what comes in, and to what is kept where the batch has
-    /// operations that are new or the floor rises.
+    /// It takes time in proportion to the batch, what waits and what comes in, with one pass over what is kept.
     pub fn merge(
         self,
         alloc: Global,
