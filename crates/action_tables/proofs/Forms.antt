@@ -28,7 +28,7 @@ test_is false o y e = absurd (cc)
 
 -- whole numbers
 
-byte_is : (d : Data) (n : ℕ) → byte_of d ≡ Some n → (d ≡ number (unsigned n)) × (n ≤ 255)
+pub byte_is : (d : Data) (n : ℕ) → byte_of d ≡ Some n → (d ≡ number (unsigned n)) × (n ≤ 255)
 byte_is null n e = absurd (cc)
 byte_is (boolean b) n e = absurd (cc)
 byte_is (number (unsigned m)) n e =
@@ -44,7 +44,7 @@ byte_is (object ms) n e = absurd (cc)
 pub byte_from : (n : ℕ) → n ≤ 255 → byte_of (number (unsigned n)) ≡ Some n
 byte_from n h = cond-true (nat_le n 255) (Some n) None (le-leb n 255 h)
 
-str_is : (d : Data) (s : List ℕ) → as_str d ≡ Some s → d ≡ string s
+pub str_is : (d : Data) (s : List ℕ) → as_str d ≡ Some s → d ≡ string s
 str_is null s e = absurd (cc)
 str_is (boolean b) s e = absurd (cc)
 str_is (number n) s e = absurd (cc)
@@ -62,7 +62,7 @@ elements-items : (ds : List Data) → elements (items_of ds) ≡ ds
 elements-items [] = refl
 elements-items (d ∷ ds) = ap (λ z. d ∷ z) (elements-items ds)
 
-array_is : (d : Data) (ds : List Data) → array_elements d ≡ Some ds → d ≡ array (items_of ds)
+pub array_is : (d : Data) (ds : List Data) → array_elements d ≡ Some ds → d ≡ array (items_of ds)
 array_is null ds e = absurd (cc)
 array_is (boolean b) ds e = absurd (cc)
 array_is (number n) ds e = absurd (cc)
@@ -73,7 +73,7 @@ array_is (object ms) ds e = absurd (cc)
 pub array_from : (ds : List Data) → array_elements (array (items_of ds)) ≡ Some ds
 array_from ds = ap Some (elements-items ds)
 
-short_is : (d : Data) (ds : List Data) → short_elements d ≡ Some ds → (d ≡ array (items_of ds)) × (length ds ≤ 255)
+pub short_is : (d : Data) (ds : List Data) → short_elements d ≡ Some ds → (d ≡ array (items_of ds)) × (length ds ≤ 255)
 short_is d ds e =
     let a = and_then_is (λ es. if nat_le (length es) 255 then Some es else None) (array_elements d) ds e in
     let h = test_is (nat_le (length a.0) 255) (Some a.0) ds a.2 in
@@ -99,7 +99,7 @@ module _ {A : Type 0} (f : Data → Option A) (R : Data → A → Type 0) where
       map_is None x zs h = absurd (cc)
       map_is (Some ys) x zs h = (ys, refl, (let same : x ∷ ys ≡ zs = cc in same))
 
-  each_from : ((d : Data) (x : A) → R d x → f d ≡ Some x) → (ds : List Data) (xs : List A) → AllZip R ds xs → each_of f ds ≡ Some xs
+  pub each_from : ((d : Data) (x : A) → R d x → f d ≡ Some x) → (ds : List Data) (xs : List A) → AllZip R ds xs → each_of f ds ≡ Some xs
   each_from g [] [] h = refl
   each_from g [] (x ∷ xs) h = absurd h
   each_from g (d ∷ ds) [] h = absurd h
@@ -134,7 +134,7 @@ are_bytes : (ns : List ℕ) → All (λ n. n ≤ 255) ns → AllZip IsByte (map 
 are_bytes [] h = tt
 are_bytes (n ∷ ns) h = ((refl, All-head (λ n. n ≤ 255) n ns h), are_bytes ns (All-tail (λ n. n ≤ 255) n ns h))
 
-bytes_is : (d : Data) (ns : List ℕ) → bytes_of d ≡ Some ns → (d ≡ numbers ns) × All (λ n. n ≤ 255) ns
+pub bytes_is : (d : Data) (ns : List ℕ) → bytes_of d ≡ Some ns → (d ≡ numbers ns) × All (λ n. n ≤ 255) ns
 bytes_is d ns e =
     let a = and_then_is (each_of byte_of) (array_elements d) ns e in
     let b = bytes_are a.0 ns (each_is byte_of IsByte byte_is a.0 ns a.2) in
@@ -145,7 +145,7 @@ bytes_from ns h =
     ap (option_and_then (each_of byte_of)) (array_from (map (λ n. number (unsigned n)) ns))
     ∙ each_from byte_of IsByte (λ d n k. ap byte_of k.0 ∙ byte_from n k.1) (map (λ n. number (unsigned n)) ns) ns (are_bytes ns h)
 
-texts_is : (d : Data) (ss : List (List ℕ)) → texts_of d ≡ Some ss → (d ≡ strings ss) × (length ss ≤ 255)
+pub texts_is : (d : Data) (ss : List (List ℕ)) → texts_of d ≡ Some ss → (d ≡ strings ss) × (length ss ≤ 255)
 texts_is d ss e =
     let a = and_then_is (each_of as_str) (short_elements d) ss e in
     let b = short_is d a.0 a.1 in
@@ -166,14 +166,14 @@ texts_from ss h =
 pub field_is : {A : Type 0} (f : Data → Option A) (k : List ℕ) (d : Data) (x : A) → field_of f k d ≡ Some x → (v : Data) × (get k d ≡ Some v) × (f v ≡ Some x)
 field_is f k d x e = and_then_is f (get k d) x e
 
-field_from : {A : Type 0} (f : Data → Option A) (k : List ℕ) (d v : Data) (x : A) → get k d ≡ Some v → f v ≡ Some x → field_of f k d ≡ Some x
+pub field_from : {A : Type 0} (f : Data → Option A) (k : List ℕ) (d v : Data) (x : A) → get k d ≡ Some v → f v ≡ Some x → field_of f k d ≡ Some x
 field_from f k d v x e h = ap (option_and_then f) e ∙ h
 
-count_keys : (keys : List (List ℕ)) (d : Data) → HasKeys keys d → key_count d ≡ length keys
+pub count_keys : (keys : List (List ℕ)) (d : Data) → HasKeys keys d → key_count d ≡ length keys
 count_keys keys d h = ap key_count h.is ∙ sym (length-keys_of h.members) ∙ h.once
 
 -- two texts of which a test says that they are not the same
-differ : (xs ys : List ℕ) → bytes_eq xs ys ≡ false → xs ≡ ys → ⊥
+pub differ : (xs ys : List ℕ) → bytes_eq xs ys ≡ false → xs ≡ ys → ⊥
 differ xs ys f e = both_ways (bytes_eq xs ys) f ((bytes_eq-Decides xs ys).1 e)
 
 -- operations

@@ -48,7 +48,7 @@ first_at t i j h k = elim (cases_order i j) [
   | inr (inr high) ↦ absurd (h.first j high k.outside)
 ]
 
-fault_alike : (t : ActionTable) (f g : Shape) → HasFault t f → HasFault t g → f ≡ g
+pub fault_alike : (t : ActionTable) (f g : Shape) → HasFault t f → HasFault t g → f ≡ g
 fault_alike t Size Size h k = refl
 fault_alike t Size Level h k = absurd (h k.0)
 fault_alike t Size (Entry j) h k = absurd (h k.0)

@@ -2,6 +2,7 @@
 use Rattle.std.specs.Prelude.{◌≡◌, ◌≢◌, ℕ, ◌≤◌, ◌⊎◌, List, [], ◌∷◌, ◌++◌, map, length, Option, Some, None, unwrap_or, Result, Ok, Err}
 use Rattle.std.specs.List.{All, AllPairs, Contains}
 use Rattle.serde_json.specs.Data.{Data}
+use Rattle.vector_clock.specs.Clock.{max_members}
 use Rattle.action_tables.specs.Name.{IsName}
 use Rattle.action_tables.specs.Table.{IsTable, KeepsLaws}
 use Rattle.action_tables.specs.TableText.{HasNames, HasRows, HasShapeFault, IsApart, IsJson, op_names, parts_of}
@@ -119,10 +120,10 @@ FieldsResult done (d ∷ ds) r = Follows (FieldResult (field_names done) d) (λ 
 
 -- ---- The rules of a schema
 
--- 1 to 64
+-- as many members as a document may have
 pub record AreMembers (n : ℕ) : Type 0 where
   pub some : 1 ≤ n
-  pub most : n ≤ 64
+  pub most : n ≤ max_members
 
 -- The rules of a value: its form, its members, its name and its fields. What is no field's fault has the number 255.
 abbrev pub ValueResult : Data → Result SchemaParts SchemaError → Type 0

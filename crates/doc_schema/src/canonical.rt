@@ -14,7 +14,7 @@ use crdt_laws::{List, Names, NoMemory, Txt};
 use serde_json::{Map, Value, put};
 use std::alloc::Global;
 
-// The string of a name.
+/// The string of a name.
 fn name_value(alloc: Global, name: &Txt) -> Result<Value, NoMemory>
     requires { IsName name.now }
     ensures { IfOk result (λ v. view v ≡ string name.now) }
@@ -22,14 +22,14 @@ fn name_value(alloc: Global, name: &Txt) -> Result<Value, NoMemory>
     Ok(Value::String(name.to_string(alloc)?))
 }
 
-// The string of a word of this crate.
+/// The string of a word of this crate.
 fn word_value(alloc: Global, word: &str) -> Result<Value, NoMemory>
     ensures { IfOk result (λ v. view v ≡ string word.now) }
 {
     Ok(Value::String(String::from_str(alloc, word)?))
 }
 
-// The array of names.
+/// The array of names.
 fn names_value(alloc: Global, names: &Names) -> Result<Value, NoMemory>
     requires { All IsName names.now }
     ensures { IfOk result (λ v. view v ≡ strings names.now) }
@@ -41,7 +41,7 @@ fn names_value(alloc: Global, names: &Names) -> Result<Value, NoMemory>
     Ok(Value::Array(values))
 }
 
-// The array of numbers.
+/// The array of numbers.
 fn numbers_value(alloc: Global, numbers: &[u8]) -> Result<Value, NoMemory>
     ensures { IfOk result (λ v. view v ≡ numbers_of numbers.now) }
 {
@@ -52,7 +52,7 @@ fn numbers_value(alloc: Global, numbers: &[u8]) -> Result<Value, NoMemory>
     Ok(Value::Array(values))
 }
 
-// An operation of a table.
+/// An operation of a table.
 fn op_value(alloc: Global, table: &Table, name: &Txt, op: usize) -> Result<Value, NoMemory>
     requires name { IsName name.now }
     requires op { op < op_count table.now }
@@ -78,7 +78,7 @@ fn op_value(alloc: Global, table: &Table, name: &Txt, op: usize) -> Result<Value
     Ok(Value::Object(object))
 }
 
-// The operations of a table.
+/// The operations of a table.
 fn ops_value(alloc: Global, table: &Table, ops: &Names) -> Result<Value, NoMemory>
     requires names { All IsName ops.now }
     requires count { length ops.now ≡ op_count table.now }
@@ -91,7 +91,7 @@ fn ops_value(alloc: Global, table: &Table, ops: &Names) -> Result<Value, NoMemor
     Ok(Value::Array(values))
 }
 
-// Puts the modulus in, where there is one.
+/// Puts the modulus in, where there is one.
 fn put_modulus(object: &mut Map<String, Value>, alloc: Global, modulus: u64) -> Result<(), NoMemory>
     ensures { OnOk result (members_view object.new.entries ≡ modulus_member modulus (members_view object.old.entries)) }
 {
@@ -101,7 +101,7 @@ fn put_modulus(object: &mut Map<String, Value>, alloc: Global, modulus: u64) -> 
     Ok(())
 }
 
-// Puts a table in.
+/// Puts a table in.
 fn put_table(
     object: &mut Map<String, Value>,
     alloc: Global,
@@ -121,7 +121,7 @@ fn put_table(
     Ok(())
 }
 
-// Puts the parts of a kind in.
+/// Puts the parts of a kind in.
 fn put_kind(object: &mut Map<String, Value>, alloc: Global, kind: &Kind) -> Result<(), NoMemory>
     requires { IsSoundKind kind.now }
     ensures { OnOk result (members_view object.new.entries ≡ kind_members kind.now (members_view object.old.entries)) }
@@ -135,7 +135,7 @@ fn put_kind(object: &mut Map<String, Value>, alloc: Global, kind: &Kind) -> Resu
     }
 }
 
-// Puts the reset in, where there is one.
+/// Puts the reset in, where there is one.
 fn put_reset(object: &mut Map<String, Value>, alloc: Global, reset: Reset) -> Result<(), NoMemory>
     ensures { OnOk result (members_view object.new.entries ≡ reset_members reset (members_view object.old.entries)) }
 {
@@ -147,7 +147,7 @@ fn put_reset(object: &mut Map<String, Value>, alloc: Global, reset: Reset) -> Re
     Ok(put(object, alloc, "reset", word_value(alloc, word)?)?)
 }
 
-// The object of a field.
+/// The object of a field.
 fn field_value(alloc: Global, field: &Field) -> Result<Value, NoMemory>
     requires { IsSoundField field.now }
     ensures { IfOk result (λ v. view v ≡ field_data field.now) }
@@ -165,7 +165,7 @@ fn field_value(alloc: Global, field: &Field) -> Result<Value, NoMemory>
     Ok(Value::Object(object))
 }
 
-// The array of fields.
+/// The array of fields.
 fn fields_value(alloc: Global, fields: &List<Field>) -> Result<Value, NoMemory>
     requires { All IsSoundField fields.now }
     ensures { IfOk result (λ v. view v ≡ array (items_of (map field_data fields.now))) }
@@ -177,7 +177,7 @@ fn fields_value(alloc: Global, fields: &List<Field>) -> Result<Value, NoMemory>
     Ok(Value::Array(values))
 }
 
-// The object of a schema of these parts.
+/// The object of a schema of these parts.
 pub fn schema_value(
     alloc: Global,
     doc: &Txt,

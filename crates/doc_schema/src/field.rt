@@ -17,7 +17,7 @@ use crdt_laws::{List, Names, NoMemory};
 use serde_json::Value;
 use std::alloc::Global;
 
-// Why a kind is refused, in the order in which it is looked at.
+/// Why a kind is refused, in the order in which it is looked at.
 #[derive(Clone, Copy, Debug, PartialEq, Eq)]
 pub enum KindFault {
     Modulus(u64),
@@ -38,7 +38,7 @@ impl From<NoMemory> for KindFault {
     }
 }
 
-// The modulus, where 0 stands for the one that is absent.
+/// The modulus, where 0 stands for the one that is absent.
 fn checked_modulus(modulus: Option<u64>) -> Result<u64, KindFault>
     ensures modulus { IfOk result (λ m. IsModulus modulus × (m ≡ unwrap_or modulus 0)) }
     ensures sound { IfOk result IsKeptModulus }
@@ -51,7 +51,7 @@ fn checked_modulus(modulus: Option<u64>) -> Result<u64, KindFault>
     }
 }
 
-// The names, where each is one and no two are the same.
+/// The names, where each is one and no two are the same.
 fn checked_names(names: Names) -> Result<Names, KindFault>
     ensures same { IfOk result (λ n. n ≡ names) }
     ensures sound { IfOk result AreNames }
@@ -66,7 +66,7 @@ fn checked_names(names: Names) -> Result<Names, KindFault>
     Ok(names)
 }
 
-// The table of a field, where it is lawful.
+/// The table of a field, where it is lawful.
 fn make_table(alloc: Global, written: WrittenTable) -> Result<Kind, KindFault>
     requires { length written.states ≤ 255 }
     ensures names { IfOk result (λ k. HasNames written × IsApart written) }
@@ -90,7 +90,7 @@ fn make_table(alloc: Global, written: WrittenTable) -> Result<Kind, KindFault>
     }
 }
 
-// The kind, or the first thing at fault with it.
+/// The kind, or the first thing at fault with it.
 fn make_kind(alloc: Global, written: WrittenKind) -> Result<Kind, KindFault>
     requires { HasCounts written }
     ensures modulus { IfOk result (λ k. IsModulus (modulus_of written)) }
@@ -122,7 +122,7 @@ fn make_kind(alloc: Global, written: WrittenKind) -> Result<Kind, KindFault>
     })
 }
 
-// The field with this number, where no earlier one has its name, or the first thing at fault with it.
+/// The field with this number, where no earlier one has its name, or the first thing at fault with it.
 fn make_field(
     alloc: Global,
     earlier: &Places,
@@ -148,7 +148,7 @@ fn make_field(
     }
 }
 
-// The field of a value that stands after fields of these names, or the first thing at fault with it.
+/// The field of a value that stands after fields of these names, or the first thing at fault with it.
 fn next_field(alloc: Global, earlier: &Places, value: &Value) -> Result<Field, SchemaError>
     requires { length earlier.now ≤ 255 }
     ensures field { IfOk result (λ f. FieldResult earlier.now (view value.now) (Ok f)) }
@@ -162,14 +162,14 @@ fn next_field(alloc: Global, earlier: &Places, value: &Value) -> Result<Field, S
     }
 }
 
-// Fields, with the places of their names.
+/// Fields, with the places of their names.
 #[derive(Drop)]
 pub struct Fields {
     pub list: List<Field>,
     pub places: Places,
 }
 
-// The fields of these values, or the first thing at fault with the first value that gives none.
+/// The fields of these values, or the first thing at fault with the first value that gives none.
 pub fn read_fields(alloc: Global, values: &[Value]) -> Result<Fields, SchemaError>
     requires { length values.now ≤ 64 }
     ensures fields { IfOk result (λ f. FieldsResult [] (map view values.now) (Ok f.list)) }

@@ -72,7 +72,7 @@ pub struct Field {
     pub reset: Reset,
 }
 
-// A kind, without its parts.
+/// A kind, without its parts.
 #[derive(Clone, Copy, Debug, PartialEq, Eq)]
 pub enum KindName {
     Number,
@@ -103,7 +103,7 @@ const ALL_KINDS: [KindName; 11] = [
 ];
 
 impl KindName {
-    // What a schema calls it.
+    /// What a schema calls it.
     pub fn text(self) -> &'static str
         ensures { result.now ≡ kind_text self }
     {
@@ -122,14 +122,14 @@ impl KindName {
         }
     }
 
-    // The kind that a schema calls so.
+    /// The kind that a schema calls so.
     pub fn named(text: &str) -> Option<KindName>
         ensures { result ≡ kind_named text.now }
     {
         first_named(&ALL_KINDS, text)
     }
 
-    // The kind of a field.
+    /// The kind of a field.
     pub fn of(kind: &Kind) -> KindName
         ensures { result ≡ name_of kind.now }
     {
@@ -149,7 +149,7 @@ impl KindName {
     }
 }
 
-// The first of the kinds that a schema calls so.
+/// The first of the kinds that a schema calls so.
 fn first_named(kinds: &[KindName], text: &str) -> Option<KindName>
     ensures { result ≡ find (λ k. bytes_eq (kind_text k) text.now) kinds.now }
 {

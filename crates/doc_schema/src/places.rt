@@ -6,7 +6,7 @@ use indexmap::IndexSet;
 use std::alloc::Global;
 use std::marker::Model;
 
-// Names in the order in which they came, each once, seen by contracts as their list. One is looked up without a walk over them.
+/// Names in the order in which they came, each once, seen by contracts as their list. One is looked up without a walk over them.
 #[derive(Drop)]
 pub struct Places {
     names: IndexSet<Vec<u8>>,
@@ -21,7 +21,7 @@ impl Model for Places {
 }
 
 impl Places {
-    // No names.
+    /// No names.
     pub fn new(alloc: Global) -> Places
         ensures { result ≡ [] }
     {
@@ -30,14 +30,14 @@ impl Places {
         }
     }
 
-    // How many names there are.
+    /// How many names there are.
     pub fn len(&self) -> usize
         ensures { result ≡ length self.now }
     {
         self.names.len()
     }
 
-    // The place of a name, counted from 0.
+    /// The place of a name, counted from 0.
     pub fn place_of(&self, name: &[u8]) -> Option<usize>
         ensures found { IfSome result (λ at. slice_get self.now at ≡ Some name.now) }
         ensures absent { IfNone result (¬ Contains self.now name.now) }
@@ -46,7 +46,7 @@ impl Places {
         self.names.get_index_of(name)
     }
 
-    // Puts a name last that is not there yet.
+    /// Puts a name last that is not there yet.
     pub fn add(&mut self, alloc: Global, name: &Txt) -> Result<(), NoMemory>
         requires { ¬ Contains self.old name.now }
         ensures { OnOk result (self.new ≡ self.old ++ name.now ∷ []) }

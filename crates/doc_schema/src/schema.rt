@@ -11,11 +11,12 @@ use crdt_laws::{List, NoMemory, Txt};
 use serde_json::{Category, Value};
 use std::alloc::Global;
 use std::marker::Model;
+use vector_clock::MAX_MEMBERS;
 
-// How many bytes the text of a schema may have.
+/// How many bytes the text of a schema may have.
 const MOST_BYTES: usize = 65_536;
 
-// The canonical bytes of the schemas that need no file.
+/// The canonical bytes of the schemas that need no file.
 const PAIR: &[u8] = br#"{"doc":"pair","fields":[{"kind":"number","name":"n"}],"members":2}"#;
 
 const TRIO: &[u8] = br#"{"doc":"trio","fields":[{"kind":"number","name":"n"}],"members":3}"#;
@@ -96,7 +97,7 @@ impl Schema {
         Schema::built_in(alloc, TRIO)
     }
 
-    // The schema of a text that spells one, and so has no fault: only memory can be wanting.
+    /// The schema of a text that spells one, and so has no fault: only memory can be wanting.
     fn built_in(alloc: Global, text: &[u8]) -> Result<Schema, NoMemory>
         requires { (s : SchemaParts) × Spells text.now s }
         ensures { IfOk result (Spells text.now) }
@@ -107,7 +108,7 @@ impl Schema {
         }
     }
 
-    // The schema of a JSON value, or the first thing at fault with it.
+    /// The schema of a JSON value, or the first thing at fault with it.
     fn of_value(alloc: Global, value: &Value) -> Result<Schema, SchemaError>
         ensures schema { IfOk result (λ s. ValueResult (view value.now) (Ok s)) }
         ensures fault { IfErr result (λ e. e ≢ SchemaError.NoMemory → ValueResult (view value.now) (Err e)) }
@@ -115,7 +116,7 @@ impl Schema {
         let Some(written) = read_schema(value) else {
             return Err(SchemaError::Shape { field: 255 });
         };
-        if !(1..=64).contains(&written.members) {
+        if !(1..=MAX_MEMBERS as u64).contains(&written.members) {
             return Err(SchemaError::Members { n: written.members });
         }
         if !is_name(written.doc.as_bytes()) {
@@ -160,7 +161,7 @@ impl Schema {
     }
 }
 
-// The bytes of a text.
+/// The bytes of a text.
 fn copied(alloc: Global, text: &str) -> Result<Txt, NoMemory>
     ensures { IfOk result (λ t. t ≡ text.now) }
 {

@@ -11,7 +11,7 @@ use crdt_laws::{Names, NoMemory, Txt};
 use serde_json::Value;
 use std::alloc::Global;
 
-// The kind of a field as the text has it: nothing is known of its names, of a modulus, and of what a table does.
+/// The kind of a field as the text has it: nothing is known of its names, of a modulus, and of what a table does.
 #[derive(Debug, Drop)]
 pub enum WrittenKind {
     Number(Option<u64>),
@@ -27,7 +27,7 @@ pub enum WrittenKind {
     Rich(Names),
 }
 
-// A field as the text has it.
+/// A field as the text has it.
 #[derive(Debug, Drop)]
 pub struct WrittenField {
     pub name: Txt,
@@ -35,7 +35,7 @@ pub struct WrittenField {
     pub reset: Reset,
 }
 
-// A schema as the text has it, with the values of its fields.
+/// A schema as the text has it, with the values of its fields.
 #[derive(Clone, Copy)]
 pub struct WrittenSchema<'a> {
     pub doc: &'a str,
@@ -43,7 +43,7 @@ pub struct WrittenSchema<'a> {
     pub fields: &'a [Value],
 }
 
-// The whole number at `modulus`, where the key is there. The outer None says that its value is none.
+/// The whole number at `modulus`, where the key is there. The outer None says that its value is none.
 fn modulus_at(object: &Value) -> Option<Option<u64>>
     ensures { result ≡ if_there whole_of (get (codes "modulus") (view object.now)) }
 {
@@ -53,7 +53,7 @@ fn modulus_at(object: &Value) -> Option<Option<u64>>
     }
 }
 
-// The low to high texts of the array at a key.
+/// The low to high texts of the array at a key.
 fn names_at(
     alloc: Global,
     object: &Value,
@@ -69,7 +69,7 @@ fn names_at(
     }
 }
 
-// The reset at `reset`, which is `Never` where the key is absent.
+/// The reset at `reset`, which is `Never` where the key is absent.
 fn reset_at(object: &Value) -> Option<Reset>
     ensures { result ≡ reset_of (get (codes "reset") (view object.now)) }
 {
@@ -86,7 +86,7 @@ fn reset_at(object: &Value) -> Option<Reset>
     }
 }
 
-// The parts of a field of this kind.
+/// The parts of a field of this kind.
 fn kind_at(alloc: Global, kind: KindName, object: &Value) -> Result<Option<WrittenKind>, NoMemory>
     ensures { IfOk result (λ o. o ≡ kind_of kind (view object.now)) }
 {
@@ -105,7 +105,7 @@ fn kind_at(alloc: Global, kind: KindName, object: &Value) -> Result<Option<Writt
     })
 }
 
-// The kind that a field says to have.
+/// The kind that a field says to have.
 fn kind_name_at(object: &Value) -> Option<KindName>
     ensures { result ≡ option_and_then kind_named (field_of as_str (codes "kind") (view object.now)) }
 {
@@ -113,7 +113,7 @@ fn kind_name_at(object: &Value) -> Option<KindName>
 }
 
 impl WrittenField {
-    // How many keys the object of such a field has.
+    /// How many keys the object of such a field has.
     fn key_count(&self) -> usize
         ensures { result ≡ field_keys self.now }
     {
@@ -130,7 +130,7 @@ impl WrittenField {
     }
 }
 
-// The parts of a field, whatever other keys there are.
+/// The parts of a field, whatever other keys there are.
 fn field_at(alloc: Global, object: &Value) -> Result<Option<WrittenField>, NoMemory>
     ensures { IfOk result (λ o. o ≡ field_at (view object.now)) }
 {
@@ -149,7 +149,7 @@ fn field_at(alloc: Global, object: &Value) -> Result<Option<WrittenField>, NoMem
     Ok(Some(WrittenField { name, kind, reset }))
 }
 
-// The field of an object, where it has the form of one.
+/// The field of an object, where it has the form of one.
 pub fn read_field(alloc: Global, object: &Value) -> Result<Option<WrittenField>, NoMemory>
     ensures { IfOk result (λ o. o ≡ field_form (view object.now)) }
 {
@@ -159,7 +159,7 @@ pub fn read_field(alloc: Global, object: &Value) -> Result<Option<WrittenField>,
     }
 }
 
-// The values of the 1 to 64 fields.
+/// The values of the 1 to 64 fields.
 fn fields_at(object: &Value) -> Option<&[Value]>
     ensures { option_map (λ v. map view v.now) result ≡ field_of fields_of (codes "fields") (view object.now) }
 {
@@ -171,7 +171,7 @@ fn fields_at(object: &Value) -> Option<&[Value]>
     }
 }
 
-// The schema of an object, where it has the form of one.
+/// The schema of an object, where it has the form of one.
 pub fn read_schema(object: &Value) -> Option<WrittenSchema<'_>>
     ensures { option_map (λ s. record { doc = s.doc.now; members = s.members; fields = map view s.fields.now }) result
         ≡ head_form (view object.now) }

@@ -25,7 +25,7 @@ all_entries n = repeated (λ _. number 4) n []
 abbrev pub are_within : List ℕ → Bool
 are_within entries = list_all (λ e. nat_le e max_seq) entries
 
--- n times an entry of at most 1,000,000
+-- n times an entry up to the greatest sequence number
 abbrev pub dense_entries : ℕ → Grammar (List ℕ)
 dense_entries n = tested (λ _. are_within) (all_entries n)
 
@@ -61,7 +61,7 @@ op_grammar = made (λ p. last_op p.0 p.1) (λ id. (id.member, id.seq)) (chain (n
 abbrev pub counted_ops : Grammar (List Id)
 counted_ops = counted (λ _. op_grammar) (number 1)
 
--- a count, and so many times a member below n and an entry of 1 to 1,000,000, the members strictly rising
+-- a count, and so many times a member below n and an entry from 1 to the greatest sequence number, the members strictly rising
 abbrev pub sparse_entries : ℕ → Grammar (List ℕ)
 sparse_entries n = made (with_ops (replicate n 0)) (last_ops 0) (tested (λ _. are_rising n 0) counted_ops)
 
