@@ -1,5 +1,5 @@
 -- The bytes of pairs: a tag and the operation of a side, and the state of the left side before that of the right one.
-use Rattle.std.specs.Prelude.{◌≡◌, ◌≤◌, ◌⊎◌, max}
+use Rattle.std.specs.Prelude.{◌≤◌, ◌⊎◌, max}
 use Rattle.std.proofs.Common.{refl, inl, inr, arith}
 use Rattle.vector_clock.specs.declared.clock.Clock.{Clock}
 use Rattle.vector_clock.specs.declared.stamp.Stamp.{Stamp}

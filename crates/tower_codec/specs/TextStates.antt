@@ -1,5 +1,5 @@
 -- The bytes of texts: a count, and each position with its character, the positions strictly rising.
-use Rattle.std.specs.Prelude.{◌≡◌, ℕ, zero, suc, ◌+◌, ◌-◌, ◌≤◌, ◌<◌, Bool, true, false, not, ◌&&◌, ◌||◌, ◌==◌, IsTrue, List, [], ◌∷◌, ◌++◌, length, Option, None, Some, nat_le, nat_lt}
+use Rattle.std.specs.Prelude.{◌≡◌, ℕ, zero, suc, ◌+◌, ◌≤◌, ◌<◌, Bool, true, false, not, ◌&&◌, ◌||◌, ◌==◌, IsTrue, List, [], ◌∷◌, ◌++◌, length, Option, None, Some, nat_le, nat_lt}
 use Rattle.std.proofs.Common.{refl, ap, sym, subst, ◌∙◌, arith, inl, inr, length-append, cond, ltb, ◌⊎◌}
 use Rattle.std.specs.List.{All, AllPairs, last_or}
 use Rattle.std.specs.declared.cmp.Ordering.TheVariants.{Less, Equal, Greater}
@@ -10,14 +10,14 @@ use Rattle.std.proofs.lemmas.Bool.Decides.{nat_tests}
 use Rattle.std.proofs.lemmas.List.Elements.{All-cons, All-head, All-nil, All-tail, All-weaker}
 use Rattle.std.proofs.lemmas.List.Kept.{AllPairs-cons}
 use Rattle.vector_clock.specs.declared.clock.Clock.{Clock}
-use Rattle.vector_clock.specs.Clock.{IsClock, covers, max_members, max_seq}
+use Rattle.vector_clock.specs.Clock.{covers, max_seq}
 use Rattle.list_crdt.specs.declared.position.Step.{Step}
 use Rattle.list_crdt.specs.declared.text.Cell.{Cell}
 use Rattle.list_crdt.specs.Position.{AreSteps, IsBefore, IsPositionOf, NamesOperation, maker, max_steps, pad, position_cmp}
 use Rattle.list_crdt.specs.Order.{position_total}
-use Rattle.list_crdt.specs.Text.{IsCellOf, IsText, IsTextAt, text_meaning}
+use Rattle.list_crdt.specs.Text.{IsCellOf, IsText, text_meaning}
 use Rattle.byteorder.specs.Endian.{big_number}
-use Rattle.wire_core.specs.Reading.{Grammar, Input, Outcome, Got, Stop, ShortAt, BadAt, ◌>>=◌, IsExact, Rules, behind, number, field, moved, only, ending, tested, chain, made, listed, max_listed, repeated, read_each, allows_each}
+use Rattle.wire_core.specs.Reading.{Grammar, Input, Got, Stop, ShortAt, BadAt, ◌>>=◌, IsExact, Rules, behind, number, moved, only, ending, chain, made, listed, max_listed, repeated, read_each, allows_each}
 use Rattle.wire_core.specs.Exact.{bind_got, got_is, test_got, moved_got, only_exact, ending_exact, chain_exact, made_exact, listed_exact}
 use Rattle.wire_core.specs.Faults.{IsFrom}
 use Rattle.wire_core.specs.InOrder.{repeated_in_order}

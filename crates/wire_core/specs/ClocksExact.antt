@@ -1,16 +1,16 @@
 -- Clocks are read and spelled exactly, in both forms.
-use Rattle.std.proofs.Common.{◌≡◌, ℕ, zero, suc, ◌+◌, ◌-◌, ◌*◌, ◌<◌, ◌≤◌, Bool, true, false, ◌&&◌, List, [], ◌∷◌, ◌++◌, length, take, replicate, get_or, slice_index, slice_set, nat_le, nat_lt, set, ltb, leb, refl, sym, ap, subst, ◌∙◌, append_assoc, arith, ◌⊎◌, inl, inr}
-use Rattle.std.proofs.lemmas.List.{take_at, append-nil, length-append, length-replicate}
+use Rattle.std.proofs.Common.{◌≡◌, ℕ, zero, suc, ◌+◌, ◌<◌, ◌≤◌, Bool, true, false, ◌&&◌, List, [], ◌∷◌, ◌++◌, length, replicate, nat_le, nat_lt, set, refl, sym, ap, subst, ◌∙◌, append_assoc, arith, inl, inr}
+use Rattle.std.proofs.lemmas.List.{length-append, length-replicate}
 use Rattle.std.proofs.lemmas.Bool.{ltb-true, leb-true, false≢true, cases_lt}
 use Rattle.std.proofs.lemmas.Bool.Decides.{nat_tests}
 use Rattle.std.proofs.Math.Seq.{set-append_seam}
 use Rattle.vector_clock.specs.declared.clock.Id.{Id}
-use Rattle.vector_clock.specs.Clock.{max_members, max_seq}
+use Rattle.vector_clock.specs.Clock.{max_seq}
 use Rattle.wire_core.specs.declared.form.ClockForm.{ClockForm}
 use Rattle.wire_core.specs.declared.form.ClockForm.TheVariants.{Dense, Sparse}
-use Rattle.wire_core.specs.Reading.{Rules, IsExact, number, chain, repeated}
-use Rattle.wire_core.specs.Exact.{number_exact, tested_exact, made_exact, repeated_exact, counted_exact, by_rules_exact, chain_exact}
-use Rattle.wire_core.specs.Clocks.{clock_of, entries_of, all_entries, are_within, dense_entries, last_op, last_ops, with_ops, is_op_from, are_rising, op_grammar, counted_ops, sparse_entries, entries_by_form, clock_by_form, clock_grammar}
+use Rattle.wire_core.specs.Reading.{Rules, IsExact, number}
+use Rattle.wire_core.specs.Exact.{number_exact, tested_exact, made_exact, repeated_exact, counted_exact, chain_exact}
+use Rattle.wire_core.specs.Clocks.{all_entries, are_within, dense_entries, last_op, last_ops, with_ops, is_op_from, are_rising, op_grammar, counted_ops, sparse_entries, entries_by_form}
 
 pub both : (a b : Bool) → (a && b) ≡ true → (a ≡ true) × (b ≡ true)
 both true b h = (refl, h)

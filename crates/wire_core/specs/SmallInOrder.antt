@@ -5,7 +5,7 @@ use Rattle.wire_core.specs.declared.form.ClockForm.TheVariants.{Dense, Sparse}
 use Rattle.wire_core.specs.Reading.{number, chain, sized}
 use Rattle.wire_core.specs.Faults.{IsInOrder}
 use Rattle.wire_core.specs.InOrder.{number_in_order, tested_in_order, made_in_order, chain_in_order, repeated_in_order, counted_in_order, by_rules_in_order, sized_in_order}
-use Rattle.wire_core.specs.Clocks.{clock_of, entries_of, all_entries, are_within, last_ops, with_ops, are_rising, op_grammar, counted_ops, entries_by_form, clock_by_form, clock_grammar}
+use Rattle.wire_core.specs.Clocks.{clock_of, entries_of, all_entries, are_within, are_rising, op_grammar, counted_ops, entries_by_form, clock_by_form, clock_grammar}
 use Rattle.wire_core.specs.Small.{stamp_grammar, set_key_grammar, text_grammar, map_key_grammar, char_grammar}
 
 entries_in_order : (f : ClockForm) (n : ℕ) → IsInOrder (entries_by_form f n)

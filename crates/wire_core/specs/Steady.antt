@@ -1,8 +1,8 @@
 -- What holds of the faults of states too, of which some are tested when several fields of theirs are read.
 use Rattle.std.proofs.Common.{◌≡◌, ℕ, zero, suc, ◌+◌, ◌-◌, ◌≤◌, Bool, true, false, cond, List, [], ◌∷◌, ◌++◌, refl, sym, ap, subst, arith}
-use Rattle.wire_core.specs.Reading.{Rules, Input, Fault, ShortAt, BadAt, Outcome, Got, Stop, ◌>>=◌, Grammar, number, only, ending, read_each, read_all, for_all, listed, chain, made}
-use Rattle.wire_core.specs.Faults.{place, and_more, IsFrom, Stays, IsInOrder}
-use Rattle.wire_core.specs.InOrder.{from_later, from_bind, number_in_order}
+use Rattle.wire_core.specs.Reading.{Rules, Input, ShortAt, BadAt, Outcome, Got, Stop, ◌>>=◌, Grammar, number, only, ending, read_each, read_all, for_all, listed, chain, made}
+use Rattle.wire_core.specs.Faults.{and_more, IsFrom, Stays, IsInOrder}
+use Rattle.wire_core.specs.InOrder.{from_bind, number_in_order}
 
 module _ {A : Type 0} where
   -- where more bytes stand behind, a value stays, and so does what is not allowed

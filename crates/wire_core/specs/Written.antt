@@ -1,5 +1,5 @@
 -- The clocks and the stamps of a document may be written, in both forms.
-use Rattle.std.proofs.Common.{◌≡◌, ℕ, zero, suc, ◌+◌, ◌-◌, ◌^◌, ◌<◌, ◌≤◌, Bool, true, ◌&&◌, List, [], ◌∷◌, ◌++◌, length, take, drop, replicate, slice_index, slice_set, nat_le, nat_lt, refl, sym, ap, ◌∙◌, append_assoc, arith, inl, inr}
+use Rattle.std.proofs.Common.{◌≡◌, ℕ, zero, suc, ◌+◌, ◌-◌, ◌<◌, ◌≤◌, true, ◌&&◌, List, [], ◌∷◌, ◌++◌, length, take, drop, replicate, slice_index, slice_set, nat_le, nat_lt, refl, sym, ap, ◌∙◌, append_assoc, arith, inl, inr}
 use Rattle.std.proofs.lemmas.List.{get_or-drop, get_or-take, length-append, length-drop, length-take, take-append-drop, get_or_past}
 use Rattle.std.proofs.lemmas.Bool.{cases_lt}
 use Rattle.std.proofs.lemmas.Bool.Decides.{nat_tests}
@@ -12,7 +12,7 @@ use Rattle.crdt_laws.specs.Tower.{IsStampOf, IsWithin}
 use Rattle.wire_core.specs.declared.form.ClockForm.{ClockForm}
 use Rattle.wire_core.specs.declared.form.ClockForm.TheVariants.{Dense, Sparse}
 use Rattle.wire_core.specs.Reading.{Rules, number, allows_each}
-use Rattle.wire_core.specs.Clocks.{clock_of, entries_of, are_within, last_op, last_ops, with_ops, is_op_from, are_rising, op_grammar, counted_ops, entries_by_form, clock_by_form, clock_grammar}
+use Rattle.wire_core.specs.Clocks.{clock_of, entries_of, are_within, last_op, last_ops, with_ops, is_op_from, are_rising, op_grammar, entries_by_form, clock_grammar}
 use Rattle.wire_core.specs.ClocksExact.{both, op_from}
 use Rattle.wire_core.specs.Small.{stamp_grammar}
 

@@ -1,4 +1,4 @@
-use Rattle.std.proofs.Common.{◌≡◌, [], ap, subst, sym, take, ◌∙◌}
+use Rattle.std.proofs.Common.{ap, subst, sym, take, ◌∙◌}
 use Rattle.wire_core.specs.Calls.{rules_of}
 use Rattle.wire_core.specs.SmallExact.{map_key_allowed}
 use Rattle.map_crdt.specs.Keyed.{IsKey}

@@ -1,6 +1,5 @@
 use Rattle.std.proofs.Common.{◌≡◌, ◌⊎◌, length, inl, inr, ap, subst, sym, ◌∙◌}
 use Rattle.std.specs.Slice.Iter.{iter_rest}
-use Rattle.vector_clock.specs.declared.clock.Clock.{Clock}
 use Rattle.wire_core.specs.Reading.{spell_all}
 use Rattle.wire_core.specs.Calls.{rules_of, wrote}
 use Rattle.tower_codec.proofs.States.{good_more, rules_stay, states_end, states_more}

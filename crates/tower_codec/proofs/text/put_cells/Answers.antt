@@ -1,4 +1,4 @@
-use Rattle.std.proofs.Common.{◌≡◌, ◌≤◌, ap, subst, sym, take, ◌∙◌, arith}
+use Rattle.std.proofs.Common.{◌≤◌, ap, subst, sym, take, ◌∙◌, arith}
 use Rattle.wire_core.specs.Calls.{rules_of}
 use Rattle.wire_core.specs.Reading.{Rules}
 use Rattle.list_crdt.specs.Text.{IsCellOf}

@@ -1,4 +1,4 @@
-use Rattle.std.proofs.Common.{◌<◌, ◌≤◌, length, nat_le, arith}
+use Rattle.std.proofs.Common.{◌≤◌, length, nat_le, arith}
 use Rattle.std.proofs.lemmas.Bool.{leb-true}
 use Rattle.list_crdt.specs.Position.{max_steps}
 use Rattle.wire_core.specs.Calls.{input_of}

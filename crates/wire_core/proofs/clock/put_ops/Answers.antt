@@ -1,5 +1,5 @@
-use Rattle.std.proofs.Common.{◌≡◌, ◌<◌, ◌++◌, [], ℕ, List, length, take, slice_index, sym, ap, ◌∙◌, arith}
-use Rattle.std.proofs.lemmas.List.{append-nil, get_or_read}
+use Rattle.std.proofs.Common.{◌<◌, ◌++◌, [], ℕ, List, length, take, slice_index, sym, ap, ◌∙◌}
+use Rattle.std.proofs.lemmas.List.{append-nil}
 use Rattle.vector_clock.specs.declared.clock.Id.{Id}
 use Rattle.wire_core.specs.Reading.{number, spell_each}
 use Rattle.wire_core.specs.Calls.{rules_of, wrote}

@@ -1,4 +1,4 @@
-use Rattle.std.proofs.Common.{◌≡◌, [], ◌∷◌, ◌++◌, refl, sym, ap, ◌∙◌, ◌&&◌, ℕ, Bool, List, Option, Some, None, if◌then◌else◌}
+use Rattle.std.proofs.Common.{[], ◌∷◌, ◌++◌, ap, ◌∙◌, ◌&&◌, ℕ, Bool, List, Option, Some, None, if◌then◌else◌}
 use Rattle.std.proofs.lemmas.Result.{err_from_is_err_and}
 use Rattle.vector_clock.specs.declared.clock.Clock.{Clock}
 use Rattle.wire_core.specs.Calls.{input_of}

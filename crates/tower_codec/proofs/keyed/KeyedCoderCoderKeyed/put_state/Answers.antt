@@ -1,6 +1,4 @@
-use Rattle.std.proofs.Common.{◌≡◌, List, refl, rules, subst}
-use Rattle.map_crdt.specs.declared.keyed.KeyState.{KeyState}
-use Rattle.vector_clock.specs.declared.clock.Clock.{Clock}
+use Rattle.std.proofs.Common.{◌≡◌, refl, rules, subst}
 use Rattle.wire_core.specs.Reading.{listed}
 use Rattle.wire_core.specs.Calls.{rules_of, wrote}
 use Rattle.tower_codec.specs.Keyed.{pair_grammar}
