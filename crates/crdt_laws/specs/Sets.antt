@@ -13,6 +13,10 @@ use Rattle.crdt_laws.specs.Tower.{Meaning, IsIssued}
 abbrev pub AreIssued : {State Op : Type 0} → Meaning State Op → ℕ → List (Entry Op) → Type 0
 AreIssued m n xs = All (λ e. IsIssued m n e.stamp e.op) xs
 
+-- operations that may each stand at some stamp
+abbrev pub AreFormed : {State Op : Type 0} → Meaning State Op → List (Entry Op) → Type 0
+AreFormed m xs = All (λ e. m.well_formed e.op) xs
+
 -- honest and causally closed sets of operations
 abbrev pub IsHonest : {Op : Type 0} → List (Entry Op) → Type 0
 IsHonest xs = stamped.IsHonest (λ e. e.stamp) xs
