@@ -7,7 +7,7 @@ use Rattle.vector_clock.specs.Clock.{covers, join}
 use Rattle.vector_clock.specs.Stamp.{IsStamp, id_of, is_below}
 use Rattle.crdt_laws.specs.declared.small.Entry.{Entry}
 use Rattle.crdt_laws.specs.Interleaved.{interleaved}
-use Rattle.crdt_laws.specs.Sets.{AreIssued, IsRising, beyond, canonical, has_id, place, union}
+use Rattle.crdt_laws.specs.Sets.{AreFormed, AreIssued, IsRising, beyond, canonical, has_id, place, union}
 use Rattle.crdt_laws.specs.Tower.{Meaning, IsLawful, IsStampOf}
 use Rattle.weave_model.specs.Deliver.{Weave, deliver, trim}
 use Rattle.replica_model.specs.Replica.{Batch, heard, heard_header, meet_all}
@@ -30,6 +30,10 @@ use Rattle.replica_kept.proofs.Entering.{entered_is, filter_fewer}
 
 pub kept_stamps : {State Op : Type 0} (m : Meaning State Op) (n : ℕ) (ys xs : List (Entry Op)) → AreKept m n ys → xs ≡ ys → All (λ e. IsStamp e.stamp) xs
 kept_stamps {Op = Op} m n ys xs h is = subst (All (λ (e : Entry Op). IsStamp e.stamp)) (sym is) (λ k d l. (h.issued k d l).stamp.stamp)
+
+-- what is issued may stand at some stamp
+pub issued_formed : {State Op : Type 0} (m : Meaning State Op) (law : IsLawful m) (n : ℕ) (ys xs : List (Entry Op)) → AreIssued m n ys → xs ≡ ys → AreFormed m xs
+issued_formed {Op = Op} m law n ys xs h is = subst (AreFormed m) (sym is) (λ k d l. law.valid_well_formed (get_or ys k d).stamp (get_or ys k d).op (h k d l).valid)
 
 -- the log and what waits, of the clock that is later
 abbrev pub logged : {Op : Type 0} → Clock → List (Entry Op) → List (Entry Op) → List (Entry Op) → List (Entry Op)
