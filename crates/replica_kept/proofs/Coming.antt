@@ -110,6 +110,9 @@ module _ {State Op : Type 0} (m : Meaning State Op) (law : IsLawful m) (k : Kept
     valid = All-contains (λ (e : Entry Op). m.valid e.stamp e.op) b.ops e free.valid c;
   }
 
+  pub new_issued : AreIssued m (length k.ledger.known) (new_of k.ledger b)
+  new_issued = all_from_contains Issued (new_of k.ledger b) (λ e c. batch_issued e (new_inside e c).0)
+
   pub new_stamps : All (λ e. IsStamp e.stamp) (new_of k.ledger b)
   new_stamps = all_from_contains (λ (e : Entry Op). IsStamp e.stamp) (new_of k.ledger b) (λ e c. (batch_issued e (new_inside e c).0).stamp.stamp)
 

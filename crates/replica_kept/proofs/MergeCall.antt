@@ -1,13 +1,13 @@
 -- What the parts of a merge know.
-use Rattle.std.proofs.Common.{◌≡◌, ℕ, zero, suc, ◌+◌, ◌<◌, ◌≤◌, ◌^◌, true, false, not, cond, List, [], ◌∷◌, ◌++◌, refl, ap, ap₂, sym, ◌∙◌, subst, arith, length, length-append, get_or, set, fold}
+use Rattle.std.proofs.Common.{◌≡◌, ℕ, zero, suc, ◌+◌, ◌<◌, ◌≤◌, ◌^◌, not, List, [], ◌∷◌, ◌++◌, ap, ap₂, sym, ◌∙◌, subst, arith, length, length-append, get_or, set, fold}
 use Rattle.std.specs.Prelude.{filter}
 use Rattle.std.specs.List.{All}
 use Rattle.vector_clock.specs.declared.clock.Clock.{Clock}
 use Rattle.vector_clock.specs.Clock.{covers, join}
-use Rattle.vector_clock.specs.Stamp.{IsStamp, id_of, is_below}
+use Rattle.vector_clock.specs.Stamp.{IsStamp, id_of}
 use Rattle.crdt_laws.specs.declared.small.Entry.{Entry}
 use Rattle.crdt_laws.specs.Interleaved.{interleaved}
-use Rattle.crdt_laws.specs.Sets.{AreIssued, IsRising, beyond, canonical, has_id, place, union}
+use Rattle.crdt_laws.specs.Sets.{AreFormed, AreIssued, IsRising, beyond, canonical, has_id, union}
 use Rattle.crdt_laws.specs.Tower.{Meaning, IsLawful, IsStampOf}
 use Rattle.weave_core.specs.Deliver.{Weave, deliver, trim}
 use Rattle.replica_model.specs.Replica.{Batch, heard, heard_header, meet_all}
@@ -26,10 +26,14 @@ use Rattle.replica_kept.proofs.Absorbs
 use Rattle.replica_kept.proofs.Absorbs.{rows_after}
 use Rattle.replica_kept.proofs.Coming
 use Rattle.replica_kept.proofs.EditCall.{seen, size_of}
-use Rattle.replica_kept.proofs.Entering.{entered_is, filter_fewer}
+use Rattle.replica_kept.proofs.Entering.{canonical_many, entered_is, filter_fewer}
 
 pub kept_stamps : {State Op : Type 0} (m : Meaning State Op) (n : ℕ) (ys xs : List (Entry Op)) → AreKept m n ys → xs ≡ ys → All (λ e. IsStamp e.stamp) xs
 kept_stamps {Op = Op} m n ys xs h is = subst (All (λ (e : Entry Op). IsStamp e.stamp)) (sym is) (λ k d l. (h.issued k d l).stamp.stamp)
+
+-- what is issued may stand at some stamp
+pub issued_formed : {State Op : Type 0} (m : Meaning State Op) (law : IsLawful m) (n : ℕ) (ys xs : List (Entry Op)) → AreIssued m n ys → xs ≡ ys → AreFormed m xs
+issued_formed {Op = Op} m law n ys xs h is = subst (AreFormed m) (sym is) (λ k d l. law.valid_well_formed (get_or ys k d).stamp (get_or ys k d).op (h k d l).valid)
 
 -- the log and what waits, of the clock that is later
 abbrev pub logged : {Op : Type 0} → Clock → List (Entry Op) → List (Entry Op) → List (Entry Op) → List (Entry Op)
@@ -49,18 +53,7 @@ after_is {State} {Op} m doc kn log waiting woven k is me rows later new ready le
     ap (λ (z : List (Entry Op)). record { ledger = record { doc = doc; me = me; log = beyond (meet_all rows) z; waiting = left; known = rows }; woven = trim m (fold (deliver m) woven ready) (meet_all rows) }) made
     ∙ ap (λ (z : Kept State Op). after_of m z me rows later new ready left) is
 
--- how many there are
-place_more : {Op : Type 0} (x : Entry Op) (l : List (Entry Op)) → length (place x l) ≡ suc (length l)
-place_more x [] = refl
-place_more x (y ∷ l) = elim (is_below x.stamp y.stamp) as (λ b. length (cond b (x ∷ y ∷ l) (y ∷ place x l)) ≡ suc (suc (length l))) [
-  | true ↦ refl
-  | false ↦ ap (λ (i : ℕ). suc i) (place_more x l)
-]
-
-canonical_many : {Op : Type 0} (xs : List (Entry Op)) → length (canonical xs) ≡ length xs
-canonical_many [] = refl
-canonical_many (x ∷ xs) = place_more x (canonical xs) ∙ ap (λ (i : ℕ). suc i) (canonical_many xs)
-
+-- no more turns than these
 turns_few : {Op : Type 0} (k : ℕ) (d : Clock) (xs : List (Entry Op)) → length (in_turn k d xs) ≤ k
 turns_few zero d xs = omega arith
 turns_few {Op} (suc k) d xs = go (λ e zs. turns_few k e zs) (filter (is_next d) xs)

@@ -6,12 +6,12 @@ ghost use Rattle.crdt_laws.specs.Interleaved.{interleaved};
 ghost use Rattle.crdt_laws.specs.Sets.{IsRising};
 
 use crate::faults::{bad_op, is_forked_by_id, is_forked_by_key, last_of};
-use crate::parts::{advanced, copy_ops, count_beyond};
+use crate::parts::{advanced, count_beyond};
 use crate::refusal::Refusal;
 use crate::replica::{Batch, Replica};
 use crate::rows::heard_all;
 use causal_buffer::{Absorbed, absorb, fresh, places_of};
-use crdt_laws::{Entry, NoMemory, Ops, Tower, union};
+use crdt_laws::{Entry, NoMemory, Ops, Tower, copy_ops, union};
 use history_trim::Known;
 use std::alloc::Global;
 use std::collections::BTreeMap;
@@ -59,7 +59,7 @@ impl<T: Tower> Replica<T> {
     ghost use Rattle.vector_clock.specs.Clock.{covers};
     ghost use Rattle.vector_clock.specs.Stamp.{IsStamp, id_of};
     ghost use Rattle.crdt_laws.specs.Interleaved.{interleaved};
-    ghost use Rattle.crdt_laws.specs.Sets.{AreIssued, IsRising, beyond};
+    ghost use Rattle.crdt_laws.specs.Sets.{AreFormed, AreIssued, IsRising, beyond};
     ghost use Rattle.weave_core.specs.Deliver.{deliver, trim};
     ghost use Rattle.replica_model.specs.Replica.{meet_all};
     ghost use Rattle.forgetting_model.specs.Ledger.{own_row, raised};
@@ -87,6 +87,7 @@ impl<T: Tower> Replica<T> {
         requires floor { floor.now ≡ meet_all self.now.ledger.known }
         requires places { ArePlaces places.now self.now.ledger.waiting }
         requires stamp { IsStamp e.now.stamp }
+        requires form { (T.meaning tower.now).well_formed e.now.op }
         ensures forked { IsTrue result → HasOther (self.now.ledger.log ++ self.now.ledger.waiting) e.now }
         ensures same { IsFalse result → HasNoOther (self.now.ledger.log ++ self.now.ledger.waiting) e.now }
     {
@@ -103,6 +104,7 @@ impl<T: Tower> Replica<T> {
         requires sound { IsSound (T.meaning tower.now) self.now }
         requires places { ArePlaces places.now self.now.ledger.waiting }
         requires stamps { All (λ e. IsStamp e.stamp) ops.now }
+        requires formed { AreFormed (T.meaning tower.now) ops.now }
         ensures forked { IfSome result (λ i. IsFirst (HasOther (self.now.ledger.log ++ self.now.ledger.waiting)) ops.now i) }
         ensures same { IfNone result (All (HasNoOther (self.now.ledger.log ++ self.now.ledger.waiting)) ops.now) }
     {

@@ -1,4 +1,4 @@
-use Rattle.std.proofs.Common.{◌≡◌, ◌∙◌, ◌≤◌, not, List, refl, ap, sym, subst}
+use Rattle.std.proofs.Common.{◌≡◌, ◌∙◌, ◌≤◌, length, not, List, refl, ap, sym, subst}
 use Rattle.std.specs.Prelude.{filter}
 use Rattle.std.specs.Option.{is_some}
 use Rattle.std.specs.BTreeMap.{get}
@@ -11,9 +11,24 @@ use Rattle.forgetting_model.specs.Kept.{Kept}
 use Rattle.forgetting_model.specs.Turns.{ledger_absorbed}
 use Rattle.causal_buffer.specs.Buffer.{by_id}
 use Rattle.replica_kept.specs.Sound.{burden, max_burden}
-use Rattle.replica_kept.proofs.Coming.{new_is}
+use Rattle.replica_kept.proofs.Coming.{new_is, new_issued, new_of}
 use Rattle.replica_kept.proofs.MergeCall
 use Rattle.replica_kept.proofs.replica.Replica.take_in.Goals as goal
+
+pub copy_ops-requires : goal.copy_ops-requires
+copy_ops-requires g c =
+    let k = c.args.self in
+    record { formed = MergeCall.issued_formed (g.T.Tower.meaning c.args.tower.now) (g.met.T.Tower.lawful c.args.tower.now) (length k.ledger.known) k.ledger.waiting c.as_slice.result.now c.requires.sound.waiting.issued (c.as_slice.ensures ∙ ap (λ (z : Kept _ _). z.ledger.waiting) c.self.view_is) }
+
+pub copy_ops-requires-2 : goal.copy_ops-requires-2
+copy_ops-requires-2 g c =
+    let t = g.T.Tower.meaning c.args.tower.now in
+    let law = g.met.T.Tower.lawful c.args.tower.now in
+    let k = c.args.self in
+    let b = c.args.batch in
+    let is = c.as_slice-2.ensures ∙ c.in_ok-new.ensures ∙ ap (λ (l : List (Entry _)). filter (λ e. not (is_some (get by_id c.args.places.now (id_of e.stamp)))) (beyond c.clock-own.result l)) (ap (λ (z : Batch _). z.ops) c.batch.view_is)
+    ∙ ap (λ (d : Clock). filter (λ e. not (is_some (get by_id c.args.places.now (id_of e.stamp)))) (beyond d b.ops)) c.clock-own.ensures.own ∙ new_is k.ledger b c.args.places.now c.requires.places in
+    record { formed = MergeCall.issued_formed t law (length k.ledger.known) (new_of k.ledger b) c.as_slice-2.result.now (new_issued t law k c.requires.sound b c.requires.batch c.requires.faultless) is }
 
 pub absorb-requires : goal.absorb-requires
 absorb-requires g c =
