@@ -15,7 +15,7 @@ use Rattle.crdt_laws.proofs.Filters.{apart-filter, rising-filter}
 use Rattle.replica_model.specs.Replica.{Batch, heard, heard_header, meet_all, row}
 use Rattle.replica_model.proofs.Names.{all_from_contains}
 use Rattle.replica_model.proofs.Ready.{covers_on}
-use Rattle.weave_model.specs.Deliver.{deliver, is_high, trim}
+use Rattle.weave_core.specs.Deliver.{deliver, is_high, trim}
 use Rattle.forgetting_model.specs.Kept.{Kept, kept_with}
 use Rattle.forgetting_model.specs.Ledger.{Ledger, come, ledger_with, own_row, raised, trimmed}
 use Rattle.forgetting_model.specs.Made.{kept_absorbed}

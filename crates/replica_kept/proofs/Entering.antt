@@ -19,7 +19,7 @@ use Rattle.crdt_laws.proofs.Filters.{all-append, all-place, apart-filter, rising
 use Rattle.crdt_laws.proofs.Interleave.{interleaved_canonical, rising-interleaved}
 use Rattle.crdt_laws.proofs.Place.{rising-canonical, rising-place}
 use Rattle.crdt_laws.proofs.Members.{Contains-canonical, Contains-cases, Contains-front, Contains-more, Contains-place, at_member, canonical_same, each, filter_has, filter_inside, filter_passed, rising_same}
-use Rattle.weave_model.proofs.Theorems.{apart-canonical}
+use Rattle.weave_core.proofs.Theorems.{apart-canonical}
 use Rattle.replica_model.proofs.Names.{named_in, same_id_from_ids}
 use Rattle.replica_model.proofs.Pools.{each_from}
 use Rattle.replica_model.proofs.Ready.{covers_on}

@@ -13,9 +13,9 @@ use Rattle.crdt_laws.specs.Present.{acted, present}
 use Rattle.crdt_laws.specs.Sets.{AreIssued, IsRising, beyond, is_beyond, place}
 use Rattle.crdt_laws.specs.Tower.{Meaning, IsIssued, IsLawful}
 use Rattle.crdt_laws.proofs.Forms.{present-issued, present-stamp}
-use Rattle.weave_model.specs.Deliver.{Weave, deliver, is_high, trim, woven_with}
-use Rattle.weave_model.proofs.Forms
-use Rattle.weave_model.proofs.Kept.{IsOrdered, filter-place_in, ordered-place, ordered_from}
+use Rattle.weave_core.specs.Deliver.{Weave, deliver, is_high, trim, woven_with}
+use Rattle.weave_core.proofs.Forms
+use Rattle.weave_core.proofs.Kept.{IsOrdered, filter-place_in, ordered-place, ordered_from}
 use Rattle.weave_core.proofs.Again
 use Rattle.forgetting_model.specs.Made.{placed}
 use Rattle.forgetting_model.proofs.Allowed

@@ -1,7 +1,7 @@
 ghost use Rattle.std.specs.Prelude.{◌≡◌, ◌≤◌, ◌↔◌, IfOk, IsTrue, length};
 ghost use Rattle.vector_clock.specs.Clock.{IsClock};
 ghost use Rattle.crdt_laws.specs.Sets.{beyond};
-ghost use Rattle.weave_model.specs.Deliver.{IsWell, trim};
+ghost use Rattle.weave_core.specs.Deliver.{IsWell, trim};
 ghost use Rattle.replica_kept.specs.Sound.{CoversNone};
 
 use crdt_laws::{Entry, NoMemory, Ops, Tower, beyond};
