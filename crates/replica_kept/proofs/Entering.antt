@@ -14,7 +14,7 @@ use Rattle.vector_clock.proofs.Keys.{covers_more, ids_other}
 use Rattle.vector_clock.proofs.Ordered.{all_weaker}
 use Rattle.crdt_laws.specs.declared.small.Entry.{Entry}
 use Rattle.crdt_laws.specs.Interleaved.{interleaved}
-use Rattle.crdt_laws.specs.Sets.{AreApart, IsRising, canonical, has_id, place, union}
+use Rattle.crdt_laws.specs.Sets.{AreApart, IsRising, beyond, canonical, has_id, place, union}
 use Rattle.crdt_laws.proofs.Filters.{all-append, all-place, apart-filter, rising-filter}
 use Rattle.crdt_laws.proofs.Interleave.{interleaved_canonical, rising-interleaved}
 use Rattle.crdt_laws.proofs.Place.{rising-canonical, rising-place}
@@ -28,6 +28,7 @@ use Rattle.forgetting_model.specs.Truth.{IsClockOf}
 use Rattle.forgetting_model.specs.Turns.{AreNext}
 use Rattle.forgetting_model.proofs.Rows.{AreStamped, clock_of-join, stamp_clock}
 use Rattle.forgetting_model.proofs.Tells.{covers_itself}
+use Rattle.replica_kept.specs.Sound.{CoversNone}
 use Rattle.replica_kept.proofs.Holding.{next_new}
 
 pub apart_append : {Op : Type 0} (xs ys : List (Entry Op)) → AreApart xs → AreApart ys → ((a b : Entry Op) → Contains xs a → Contains ys b → id_of b.stamp ≡ id_of a.stamp → ⊥) → AreApart (xs ++ ys)
@@ -121,6 +122,10 @@ place_more x (y ∷ l) = elim (is_below x.stamp y.stamp) as (λ b. length (cond 
 pub canonical_many : {Op : Type 0} (xs : List (Entry Op)) → length (canonical xs) ≡ length xs
 canonical_many [] = refl
 canonical_many (x ∷ xs) = place_more x (canonical xs) ∙ ap (λ (i : ℕ). suc i) (canonical_many xs)
+
+-- what a clock covers none of stays whole
+pub beyond_whole : {Op : Type 0} (k : Clock) (xs : List (Entry Op)) → CoversNone k xs → beyond k xs ≡ xs
+beyond_whole {Op} k xs none = filter_all (λ (e : Entry Op). not (covers k (id_of e.stamp))) xs (each_from (λ (e : Entry Op). not (covers k (id_of e.stamp)) ≡ true) xs (λ e c. not_from_false (covers k (id_of e.stamp)) (none e c)))
 
 -- Of operations that are in, and two further lists, those that the clock covers are those that come in.
 pub record IsEntering {Op : Type 0} (own later : Clock) (log ws ns new : List (Entry Op)) : Type 0 where

@@ -22,6 +22,15 @@ use Rattle.forgetting_model.proofs.Allowed
 use Rattle.forgetting_model.proofs.Allowed.{filters_swap}
 use Rattle.replica_kept.specs.Sound.{AreForms}
 
+-- lists with the same stamps
+pub stamps_all : {Op : Type 0} (P : Stamp → Type 0) (xs ys : List (Entry Op)) → map (λ e. e.stamp) xs ≡ map (λ e. e.stamp) ys → AllByRecursion (λ e. P e.stamp) ys → AllByRecursion (λ e. P e.stamp) xs
+stamps_all P [] ys is h = tt
+stamps_all P (x ∷ xs) [] is h = absurd (let g : x.stamp ∷ map (λ e. e.stamp) xs ≡ [] = is in cc)
+stamps_all P (x ∷ xs) (y ∷ ys) is h =
+    let head : x.stamp ≡ y.stamp = (let g : x.stamp ∷ map (λ e. e.stamp) xs ≡ y.stamp ∷ map (λ e. e.stamp) ys = is in cc) in
+    let tail : map (λ e. e.stamp) xs ≡ map (λ e. e.stamp) ys = (let g : x.stamp ∷ map (λ e. e.stamp) xs ≡ y.stamp ∷ map (λ e. e.stamp) ys = is in cc) in
+    (subst P (sym head) h.0, stamps_all P xs ys tail h.1)
+
 module _ {State Op : Type 0} (m : Meaning State Op) (law : IsLawful m) (n : ℕ) where
   abbrev Match : List (Entry Op) → List (Entry Op) → Type 0
   Match es ys = Allowed.Match m law n es ys

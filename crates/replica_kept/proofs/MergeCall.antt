@@ -21,9 +21,10 @@ use Rattle.history_trim.specs.Rows.{AreRows, rows_of}
 use Rattle.replica_kept.specs.Did.{merged_of}
 use Rattle.replica_kept.specs.Held.{IsHeld}
 use Rattle.replica_kept.specs.Merging.{IsBatchOf, IsFaultless}
-use Rattle.replica_kept.specs.Sound.{AreKept, IsSameMember, IsSound, burden, max_burden}
+use Rattle.replica_kept.specs.Sound.{AreKept, CoversNone, IsSameMember, IsSound, burden, max_burden}
 use Rattle.replica_kept.proofs.Absorbs
 use Rattle.replica_kept.proofs.Absorbs.{rows_after}
+use Rattle.replica_kept.proofs.Advance.{new_past}
 use Rattle.replica_kept.proofs.Coming
 use Rattle.replica_kept.proofs.EditCall.{seen, size_of}
 use Rattle.replica_kept.proofs.Entering.{canonical_many, entered_is, filter_fewer}
@@ -46,11 +47,13 @@ after_of m z me rows later new ready left =
       woven = trim m (fold (deliver m) z.woven ready) (meet_all rows);
     }
 
-pub after_is : {State Op : Type 0} (m : Meaning State Op) (doc : List ℕ) (kn : Known) (log waiting : List (Entry Op)) (woven : Weave State Op) (k : Kept State Op) → seen doc kn log waiting woven ≡ k
+pub after_call : {State Op : Type 0} (m : Meaning State Op) (doc : List ℕ) (kn : Known) (log waiting : List (Entry Op)) (woven : Weave State Op) (k : Kept State Op) → seen doc kn log waiting woven ≡ k
     → (me : ℕ) (rows : List Clock) (later : Clock) (new ready left l : List (Entry Op)) → l ≡ logged later log waiting new
-    → record { ledger = record { doc = doc; me = me; log = beyond (meet_all rows) l; waiting = left; known = rows }; woven = trim m (fold (deliver m) woven ready) (meet_all rows) } ≡ after_of m k me rows later new ready left
-after_is {State} {Op} m doc kn log waiting woven k is me rows later new ready left l made =
-    ap (λ (z : List (Entry Op)). record { ledger = record { doc = doc; me = me; log = beyond (meet_all rows) z; waiting = left; known = rows }; woven = trim m (fold (deliver m) woven ready) (meet_all rows) }) made
+    → (floor : Clock) → floor ≡ meet_all rows → (kl : List (Entry Op)) (w w' : Weave State Op) → kl ≡ beyond floor l → w ≡ fold (deliver m) woven ready → w' ≡ trim m w floor
+    → record { ledger = record { doc = doc; me = me; log = kl; waiting = left; known = rows }; woven = w' } ≡ after_of m k me rows later new ready left
+after_call {State} {Op} m doc kn log waiting woven k is me rows later new ready left l made floor f kl w w' a b c =
+    let of : List (Entry Op) → Weave State Op → Kept State Op = λ z v. record { ledger = record { doc = doc; me = me; log = z; waiting = left; known = rows }; woven = v } in
+    ap₂ of (a ∙ ap₂ beyond f made) (c ∙ ap₂ (trim m) b f)
     ∙ ap (λ (z : Kept State Op). after_of m z me rows later new ready left) is
 
 -- no more turns than these
@@ -107,6 +110,9 @@ module _ {State Op : Type 0} (m : Meaning State Op) (law : IsLawful m) (kn : Kno
 
     pub ready_next : AreNext (own_row k.ledger) ready
     ready_next = subst (AreNext (own_row k.ledger)) (sym ready_is) (Coming.taken_next m law k sound b ok free)
+
+    pub ready_past : (before : Clock) → before ≡ meet_all k.ledger.known → CoversNone before ready
+    ready_past before is = subst (λ (c : Clock). CoversNone c ready) (sym is) (new_past m law k sound ready ready_issued ready_next)
 
     pub stamped_call : (ops : List (Entry Op)) → ops ≡ ready → All (λ e. IsStampOf kn.n e.stamp) ops
     stamped_call ops is = subst (All (λ (e : Entry Op). IsStampOf kn.n e.stamp)) (sym is) (λ i d l. subst (λ (n : ℕ). IsStampOf n (get_or ready i d).stamp) size (ready_issued i d l).stamp)

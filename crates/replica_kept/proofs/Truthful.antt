@@ -33,17 +33,9 @@ use Rattle.forgetting_model.proofs.Steps.{rows_at}
 use Rattle.forgetting_model.proofs.Tells.{delivered_inside, own_in, replica_of, version_in}
 use Rattle.causal_buffer.proofs.Placed.{same_at}
 use Rattle.replica_kept.specs.Held.{IsHeld}
+use Rattle.replica_kept.proofs.Matching.{stamps_all}
 use Rattle.replica_kept.specs.Merging.{IsBatchOf}
 use Rattle.replica_kept.specs.Sound.{AreKept, IsRow, IsSound, burden, max_burden}
-
--- lists with the same stamps
-stamps_all : {Op : Type 0} (P : Stamp → Type 0) (xs ys : List (Entry Op)) → map (λ e. e.stamp) xs ≡ map (λ e. e.stamp) ys → AllByRecursion (λ e. P e.stamp) ys → AllByRecursion (λ e. P e.stamp) xs
-stamps_all P [] ys is h = tt
-stamps_all P (x ∷ xs) [] is h = absurd (let g : x.stamp ∷ map (λ e. e.stamp) xs ≡ [] = is in cc)
-stamps_all P (x ∷ xs) (y ∷ ys) is h =
-    let head : x.stamp ≡ y.stamp = (let g : x.stamp ∷ map (λ e. e.stamp) xs ≡ y.stamp ∷ map (λ e. e.stamp) ys = is in cc) in
-    let tail : map (λ e. e.stamp) xs ≡ map (λ e. e.stamp) ys = (let g : x.stamp ∷ map (λ e. e.stamp) xs ≡ y.stamp ∷ map (λ e. e.stamp) ys = is in cc) in
-    (subst P (sym head) h.0, stamps_all P xs ys tail h.1)
 
 stamps_rise : {Op : Type 0} (xs ys : List (Entry Op)) → map (λ e. e.stamp) xs ≡ map (λ e. e.stamp) ys → IsRising ys → IsRising xs
 stamps_rise [] ys is h = tt
