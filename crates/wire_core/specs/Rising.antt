@@ -1,7 +1,9 @@
 -- Lists whose things come in an order: each is read behind those before it, and comes after the last of them.
-use Rattle.std.specs.Prelude.{◌≡◌, Bool, true, List, [], ◌∷◌, ◌++◌, Option, None, Some}
-use Rattle.std.proofs.Common.{refl, sym, subst}
-use Rattle.std.specs.List.{AllByRecursion, last_or}
+use Rattle.std.specs.Prelude.{◌≡◌, suc, Bool, true, List, [], ◌∷◌, ◌++◌, Option, None, Some}
+use Rattle.std.proofs.Common.{refl, sym, subst, arith}
+use Rattle.std.specs.List.{All, AllByRecursion, AllPairs, last_or}
+use Rattle.std.proofs.lemmas.List.Elements.{All-from_recursion, recursion_from_All}
+use Rattle.std.proofs.lemmas.List.Kept.{AllPairs-cons}
 use Rattle.wire_core.specs.Reading.{Grammar, Rules, only, allows_each}
 
 module _ {A : Type 0} (Less : A → A → Type 0) where
@@ -80,3 +82,25 @@ module _ {A : Type 0} (Less : A → A → Type 0) (order : IsTransitive Less) wh
     pub rising_again : ((before : List A) (x : A) → Follows Less (last_or None before) x → Q x → (g before).allows r x)
         → (xs : List A) → AreRising Less xs → AllByRecursion Q xs → allows_each g r [] xs
     rising_again h xs a q = all_again h [] xs (first_of_all xs) a q
+
+-- ---- lists that rise, in std's words
+
+module _ {A : Type 0} (Less : A → A → Type 0) where
+  pub pairs_from : (xs : List A) → AreRising Less xs → AllPairs Less xs
+  pairs_from [] h = λ i j d lt in_. absurd (omega arith)
+  pairs_from (x ∷ xs) h = AllPairs-cons Less x xs (All-from_recursion (Less x) xs h.0) (pairs_from xs h.1)
+
+  pairs_behind : (x : A) (xs : List A) → AllPairs Less (x ∷ xs) → AllPairs Less xs
+  pairs_behind x xs h = λ i j d lt in_. h (suc i) (suc j) d (omega arith) (omega arith)
+
+  pairs_first : (x : A) (xs : List A) → AllPairs Less (x ∷ xs) → All (Less x) xs
+  pairs_first x xs h = λ k d lt. h 0 (suc k) d (omega arith) (omega arith)
+
+  pub pairs_back : (xs : List A) → AllPairs Less xs → AreRising Less xs
+  pairs_back [] h = tt
+  pairs_back (x ∷ xs) h = (recursion_from_All (Less x) xs (pairs_first x xs h), pairs_back xs (pairs_behind x xs h))
+
+-- what each keeps, and what each keeps besides
+pub all_both : {A : Type 0} (P Q : A → Type 0) (xs : List A) → AllByRecursion P xs → AllByRecursion Q xs → AllByRecursion (λ x. P x × Q x) xs
+all_both P Q [] h k = tt
+all_both P Q (x ∷ xs) h k = ((h.0, k.0), all_both P Q xs h.1 k.1)
