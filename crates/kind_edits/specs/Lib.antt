@@ -1,3 +1,9 @@
 pub mod FaultText
-pub mod Words
+pub mod FlagEdit
+pub mod KeyEdit
+pub mod NameEdit
+pub mod NumberEdit
+pub mod Rules
 pub mod Spelled
+pub mod TextEdit
+pub mod Words

@@ -2,11 +2,21 @@
 #![tactic(auto)]
 
 mod fault;
+mod flag;
+mod key;
 mod laws;
+mod name;
+mod number;
 mod spelled;
+mod text;
 mod words;
 
 pub use fault::EditError;
+pub use flag::{prepare_off_flag, prepare_on_flag};
+pub use key::{prepare_entry, prepare_tally};
 pub use laws::{spelled_numbers, words_of_edits};
+pub use name::{prepare_choice, prepare_table};
+pub use number::prepare_number;
 pub use spelled::{count_of, residue, signed_of};
+pub use text::prepare_register;
 pub use words::{first_word, only_word};
