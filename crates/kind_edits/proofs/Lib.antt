@@ -1,3 +1,6 @@
 pub mod Cutting
+pub mod Naming
+pub mod Numbers
 pub mod Reading
+pub mod Residues
 pub mod Spellings

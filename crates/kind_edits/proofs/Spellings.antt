@@ -18,7 +18,7 @@ numeral_from : (ds : List ℕ) → list_all is_ascii_digit ds ≡ true → 0 < l
 numeral_from [] h some one = absurd (omega arith)
 numeral_from (b ∷ bs) h some one = grind (arith, nat_tests)
 
-numeral-decimal : (n : ℕ) → n < 2 ^ 64 → is_numeral (decimal n) ≡ true
+pub numeral-decimal : (n : ℕ) → n < 2 ^ 64 → is_numeral (decimal n) ≡ true
 numeral-decimal zero h = ap is_numeral (decimal_digit 0 (omega arith))
 numeral-decimal (suc n) h =
     numeral_from (decimal (suc n)) (digits_decimal own (suc n) h) (decimal_nonempty (suc n) h)

@@ -4,6 +4,7 @@ pub mod KeyEdit
 pub mod NameEdit
 pub mod NumberEdit
 pub mod Rules
+pub mod Shown
 pub mod Spelled
 pub mod TextEdit
 pub mod Words

@@ -1,9 +1,25 @@
 //! What the definitions of edits mean. Each law is the contract of a function that does nothing.
-ghost use Rattle.std.specs.Prelude.{◌≡◌, ◌^◌, ◌<◌, ◌⊎◌, ◌↔◌, ◌∷◌, ◌++◌, [], ℕ, ℤ, List, Some};
+//!
+//! The laws of the kinds say what is shown after the operation of an edit is applied. It is applied to the state from which the edit
+//! was made, at a stamp that knows of all that is in there. An edit that another member makes meanwhile may still change what comes
+//! of it, as the table of its kind says: these laws speak of the moment after the edit.
+ghost use Rattle.std.specs.Prelude.{◌≡◌, ◌≢◌, ◌+◌, ◌^◌, ◌<◌, ◌≤◌, ◌⊎◌, ◌↔◌, ◌∷◌, ◌++◌, [], ℕ, ℤ, pos, ◌+ℤ◌, ◌*ℤ◌, FitsSigned, List, Some, None, true, false, length, codes, slice_get, IsTrue, IsOkAnd};
 ghost use Rattle.std.specs.Fmt.{decimal, signed_decimal};
 ghost use Rattle.std.specs.Int.{w64};
-ghost use Rattle.std.specs.Prelude.{FitsSigned};
-ghost use Rattle.kind_edits.specs.Spelled.{count_of, signed_of};
+ghost use Rattle.std.specs.List.{AllPairs};
+ghost use Rattle.serde_json.specs.Data.{boolean, no_items, item, array, number, string};
+ghost use Rattle.vector_clock.specs.declared.clock.Clock.{Clock};
+ghost use Rattle.vector_clock.specs.declared.stamp.Stamp.{Stamp};
+ghost use Rattle.vector_clock.specs.Stamp.{IsAfter};
+ghost use Rattle.action_tables.specs.Table.{ActionTable, next_of, table_meaning};
+ghost use Rattle.flag_crdts.specs.Flags.{off_table, on_table};
+ghost use Rattle.flag_crdts.specs.Ladder.{ladder_meaning};
+ghost use Rattle.number_crdts.specs.Number.{modulus_of, number_meaning, shown_mod};
+ghost use Rattle.kind_edits.specs.FlagEdit.{off_flag_edit, on_flag_edit};
+ghost use Rattle.kind_edits.specs.NameEdit.{choice_edit, table_edit};
+ghost use Rattle.kind_edits.specs.NumberEdit.{number_edit};
+ghost use Rattle.kind_edits.specs.Shown.{flag_shown, name_shown};
+ghost use Rattle.kind_edits.specs.Spelled.{count_of, residue, signed_of};
 ghost use Rattle.kind_edits.specs.Words.{IsWord, first_word, only_word};
 
 /// A text is cut into a first word and what follows exactly where it is that word alone, or that word, one space and what follows.
@@ -18,4 +34,67 @@ pub fn words_of_edits()
 pub fn spelled_numbers()
     ensures count { (text : List ℕ) (n : ℕ) → (count_of text ≡ Some n) ↔ ((n < 2 ^ 32) × (text ≡ decimal n)) }
     ensures signed { (text : List ℕ) (z : ℤ) → (signed_of text ≡ Some z) ↔ (FitsSigned w64 z × (text ≡ signed_decimal z)) }
+{}
+
+/// The residue of a signed number is below the modulus. A number below the modulus is its own, and the modulus may be added to any
+/// number without a change of its residue.
+pub fn residues_of_numbers()
+    ensures below { (m : ℕ) (z : ℤ) → residue m z < modulus_of m }
+    ensures own { (m n : ℕ) → n < modulus_of m → residue m (pos n) ≡ n }
+    ensures round { (m : ℕ) (z : ℤ) → residue m (pos (modulus_of m) +ℤ z) ≡ residue m z }
+{}
+
+/// `add` and the spelling of a number show the sum of what was there and the number, and `mul` shows the product, each by the
+/// modulus.
+pub fn numbers_are_changed()
+    ensures add { (m s : ℕ) (z : ℤ) (p : Stamp) → FitsSigned w64 z → let t = number_meaning m in
+        IsOkAnd (number_edit m (codes "add") (signed_decimal z))
+        (λ op. t.show (t.apply s p op) ≡ number (shown_mod m (residue m (pos s +ℤ z)))) }
+    ensures mul { (m s : ℕ) (z : ℤ) (p : Stamp) → FitsSigned w64 z → let t = number_meaning m in
+        IsOkAnd (number_edit m (codes "mul") (signed_decimal z))
+        (λ op. t.show (t.apply s p op) ≡ number (shown_mod m (residue m (pos s *ℤ z)))) }
+{}
+
+/// On a flag on which on wins, `on` shows true and `off` false, whatever it showed. Where another member switches on meanwhile, an
+/// `off` does nothing any more, and an `on` stays what it is.
+pub fn on_flags_are_switched()
+    ensures on { (s : ℕ) (p : Stamp) → s < 2 → let t = table_meaning on_table in
+        IsOkAnd (on_flag_edit (codes "on") []) (λ op. flag_shown (t.apply s p op) ≡ boolean true) }
+    ensures off { (s : ℕ) (p : Stamp) → s < 2 → let t = table_meaning on_table in
+        IsOkAnd (on_flag_edit (codes "off") []) (λ op. flag_shown (t.apply s p op) ≡ boolean false) }
+    ensures off_loses { (s : ℕ) (p : Stamp) → s < 2 → let t = table_meaning on_table in
+        IsOkAnd (on_flag_edit (codes "on") []) (λ on. IsOkAnd (on_flag_edit (codes "off") []) (λ off. t.apply s p (t.act on off) ≡ s)) }
+    ensures on_stays { let t = table_meaning on_table in
+        IsOkAnd (on_flag_edit (codes "on") []) (λ on. IsOkAnd (on_flag_edit (codes "off") []) (λ off. t.act off on ≡ on)) }
+{}
+
+/// On a flag on which off wins, `on` shows true and `off` false, whatever it showed. Where another member switches off meanwhile, an
+/// `on` does nothing any more, and an `off` stays what it is.
+pub fn off_flags_are_switched()
+    ensures on { (s : ℕ) (p : Stamp) → s < 2 → let t = table_meaning off_table in
+        IsOkAnd (off_flag_edit (codes "on") []) (λ op. flag_shown (t.apply s p op) ≡ boolean true) }
+    ensures off { (s : ℕ) (p : Stamp) → s < 2 → let t = table_meaning off_table in
+        IsOkAnd (off_flag_edit (codes "off") []) (λ op. flag_shown (t.apply s p op) ≡ boolean false) }
+    ensures on_loses { (s : ℕ) (p : Stamp) → s < 2 → let t = table_meaning off_table in
+        IsOkAnd (off_flag_edit (codes "on") []) (λ on. IsOkAnd (off_flag_edit (codes "off") []) (λ off. t.apply s p (t.act off on) ≡ s)) }
+    ensures off_stays { let t = table_meaning off_table in
+        IsOkAnd (off_flag_edit (codes "on") []) (λ on. IsOkAnd (off_flag_edit (codes "off") []) (λ off. t.act on off ≡ off)) }
+{}
+
+/// `set` and the name of a value show that name, whatever was chosen. Where another member sets a higher value meanwhile, the
+/// setting of the lower one does nothing any more, and the higher one stays what it is.
+pub fn choices_are_set()
+    ensures set { (values : List (List ℕ)) (name : List ℕ) (s v : ℕ) (p : Stamp) → slice_get values v ≡ Some name
+        → let t = ladder_meaning (length values) in
+        IsOkAnd (choice_edit values (codes "set") name) (λ op. name_shown values (t.apply s p op) ≡ string name) }
+    ensures lower_loses { (n v w s : ℕ) (p : Stamp) → v < w → w < n → let t = ladder_meaning n in t.apply s p (t.act w v) ≡ s }
+    ensures higher_stays { (n v w : ℕ) → v < w → w < n → (ladder_meaning n).act v w ≡ w }
+{}
+
+/// `do` and the name of an operation lead to the state that the table says, and show its name. What becomes of it where another
+/// member does something meanwhile, the table says too.
+pub fn tables_are_done()
+    ensures { (t : ActionTable) (states ops : List (List ℕ)) (name : List ℕ) (s o : ℕ) (p : Stamp) → AllPairs (λ a b. a ≢ b) ops
+        → slice_get ops o ≡ Some name → IsOkAnd (table_edit ops (codes "do") name)
+        (λ op. name_shown states ((table_meaning t).apply s p op) ≡ name_shown states (next_of t s o)) }
 {}

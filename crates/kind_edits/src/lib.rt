@@ -14,7 +14,10 @@ mod words;
 pub use fault::EditError;
 pub use flag::{prepare_off_flag, prepare_on_flag};
 pub use key::{prepare_entry, prepare_tally};
-pub use laws::{spelled_numbers, words_of_edits};
+pub use laws::{
+    choices_are_set, numbers_are_changed, off_flags_are_switched, on_flags_are_switched,
+    residues_of_numbers, spelled_numbers, tables_are_done, words_of_edits,
+};
 pub use name::{prepare_choice, prepare_table};
 pub use number::prepare_number;
 pub use spelled::{count_of, residue, signed_of};
