@@ -3,23 +3,35 @@
 //! The laws of the kinds say what is shown after the operation of an edit is applied. It is applied to the state from which the edit
 //! was made, at a stamp that knows of all that is in there. An edit that another member makes meanwhile may still change what comes
 //! of it, as the table of its kind says: these laws speak of the moment after the edit.
-ghost use Rattle.std.specs.Prelude.{◌≡◌, ◌≢◌, ◌+◌, ◌^◌, ◌<◌, ◌≤◌, ◌⊎◌, ◌↔◌, ◌∷◌, ◌++◌, [], ℕ, ℤ, pos, ◌+ℤ◌, ◌*ℤ◌, FitsSigned, List, Some, None, true, false, length, codes, slice_get, IsTrue, IsOkAnd};
+ghost use Rattle.std.specs.Prelude.{◌≡◌, ◌≢◌, ◌^◌, ◌<◌, ◌≤◌, ◌⊎◌, ◌↔◌, ◌∷◌, ◌++◌, [], ℕ, ℤ, pos, ◌+ℤ◌, ◌*ℤ◌, FitsSigned, List, Option, Some, true, false, length, codes, slice_get, IsTrue, IsFalse, IfOk, IfSome, IsOkAnd};
 ghost use Rattle.std.specs.Fmt.{decimal, signed_decimal};
 ghost use Rattle.std.specs.Int.{w64};
-ghost use Rattle.std.specs.List.{AllPairs};
+ghost use Rattle.std.specs.List.{All, AllPairs};
 ghost use Rattle.serde_json.specs.Data.{boolean, no_items, item, array, number, string};
+ghost use Rattle.serde_json.specs.Find.{get};
 ghost use Rattle.vector_clock.specs.declared.clock.Clock.{Clock};
 ghost use Rattle.vector_clock.specs.declared.stamp.Stamp.{Stamp};
-ghost use Rattle.vector_clock.specs.Stamp.{IsAfter};
+ghost use Rattle.vector_clock.specs.Stamp.{IsAfter, is_less, key_of};
+ghost use Rattle.crdt_laws.specs.Present.{apply_all};
+ghost use Rattle.crdt_laws.specs.declared.small.Entry.{Entry};
 ghost use Rattle.action_tables.specs.Table.{ActionTable, next_of, table_meaning};
 ghost use Rattle.flag_crdts.specs.Flags.{off_table, on_table};
 ghost use Rattle.flag_crdts.specs.Ladder.{ladder_meaning};
+ghost use Rattle.map_crdt.specs.Keyed.{keyed_meaning, max_key, state_at};
+ghost use Rattle.map_crdt.specs.declared.keyed.KeyState.{KeyState};
+ghost use Rattle.register_crdts.specs.Latest.{latest_meaning};
+ghost use Rattle.register_crdts.specs.Several.{several_meaning};
+ghost use Rattle.register_crdts.specs.Text.{max_text};
+ghost use Rattle.register_crdts.specs.declared.latest.Set.{Set};
+ghost use Rattle.register_crdts.specs.declared.several.Held.{Held};
 ghost use Rattle.number_crdts.specs.Number.{modulus_of, number_meaning, shown_mod};
 ghost use Rattle.kind_edits.specs.FlagEdit.{off_flag_edit, on_flag_edit};
+ghost use Rattle.kind_edits.specs.KeyEdit.{entry_edit, tally_edit};
 ghost use Rattle.kind_edits.specs.NameEdit.{choice_edit, table_edit};
 ghost use Rattle.kind_edits.specs.NumberEdit.{number_edit};
 ghost use Rattle.kind_edits.specs.Shown.{flag_shown, name_shown};
 ghost use Rattle.kind_edits.specs.Spelled.{count_of, residue, signed_of};
+ghost use Rattle.kind_edits.specs.TextEdit.{register_edit};
 ghost use Rattle.kind_edits.specs.Words.{IsWord, first_word, only_word};
 
 /// A text is cut into a first word and what follows exactly where it is that word alone, or that word, one space and what follows.
@@ -97,4 +109,48 @@ pub fn tables_are_done()
     ensures { (t : ActionTable) (states ops : List (List ℕ)) (name : List ℕ) (s o : ℕ) (p : Stamp) → AllPairs (λ a b. a ≢ b) ops
         → slice_get ops o ≡ Some name → IsOkAnd (table_edit ops (codes "do") name)
         (λ op. name_shown states ((table_meaning t).apply s p op) ≡ name_shown states (next_of t s o)) }
+{}
+
+/// `set` and a text show that text on a register of one text, where what is there has a lesser key than the edit. That holds after
+/// any sets of which the edit's member knew. A set of a greater key stays: only one who did not know of the edit can have made it.
+pub fn latest_is_set()
+    ensures set { (s : Option Set) (p : Stamp) (text : List ℕ) → length text ≤ max_text → IfSome s (λ old. IsTrue (is_less old.key (key_of p)))
+        → IsOkAnd (register_edit (codes "set") text) (λ op. latest_meaning.show (latest_meaning.apply s p op) ≡ string text) }
+    ensures known { (xs : List (Entry (List ℕ))) (p : Stamp) → All (λ e. IsAfter e.stamp.clock p) xs
+        → IfSome (apply_all latest_meaning latest_meaning.init xs) (λ old. IsTrue (is_less old.key (key_of p))) }
+    ensures greater_stays { (s : Set) (p : Stamp) (text : List ℕ) → IsFalse (is_less s.key (key_of p)) → latest_meaning.apply (Some s) p text ≡ Some s }
+{}
+
+/// `set` and a text show that text alone on a register of several texts, where the edit knows of all that is there.
+pub fn several_are_set()
+    ensures { (d : Clock) (s : List Held) (p : Stamp) (text : List ℕ) → length text ≤ max_text → several_meaning.good_at d s → IsAfter d p
+        → IsOkAnd (register_edit (codes "set") text) (λ op. several_meaning.show (several_meaning.apply s p op) ≡ array (item (string text) no_items)) }
+{}
+
+/// `add`, a key and the spelling of a number show at that key the sum of what was there and the number, and `mul` shows the
+/// product, each by the modulus, where a key that is absent stands for 0. At every other key an edit of a tally shows what it showed.
+pub fn tallies_are_changed()
+    ensures add { (m : ℕ) (es : List (KeyState ℕ)) (key : List ℕ) (z : ℤ) (p : Stamp) → IsWord key → length key ≤ max_key → FitsSigned w64 z
+        → let t = keyed_meaning (number_meaning m) in
+        IsOkAnd (tally_edit m (codes "add") (key ++ 32 ∷ signed_decimal z))
+        (λ op. get key (t.show (t.apply es p op)) ≡ Some (number (shown_mod m (residue m (pos (state_at (number_meaning m) es key) +ℤ z))))) }
+    ensures mul { (m : ℕ) (es : List (KeyState ℕ)) (key : List ℕ) (z : ℤ) (p : Stamp) → IsWord key → length key ≤ max_key → FitsSigned w64 z
+        → let t = keyed_meaning (number_meaning m) in
+        IsOkAnd (tally_edit m (codes "mul") (key ++ 32 ∷ signed_decimal z))
+        (λ op. get key (t.show (t.apply es p op)) ≡ Some (number (shown_mod m (residue m (pos (state_at (number_meaning m) es key) *ℤ z))))) }
+    ensures others { (m : ℕ) (es : List (KeyState ℕ)) (verb rest key after k : List ℕ) (p : Stamp) → first_word rest ≡ Some (key, after) → k ≢ key
+        → let t = keyed_meaning (number_meaning m) in
+        IfOk (tally_edit m verb rest) (λ op. get k (t.show (t.apply es p op)) ≡ get k (t.show es)) }
+{}
+
+/// `put`, a key and a text show that text at that key, where what is there has a lesser key than the edit. At every other key they
+/// show what was shown.
+pub fn entries_are_put()
+    ensures put { (es : List (KeyState (Option Set))) (rest key text : List ℕ) (p : Stamp) → first_word rest ≡ Some (key, text)
+        → length key ≤ max_key → length text ≤ max_text → IfSome (state_at latest_meaning es key) (λ old. IsTrue (is_less old.key (key_of p)))
+        → let t = keyed_meaning latest_meaning in
+        IsOkAnd (entry_edit (codes "put") rest) (λ op. get key (t.show (t.apply es p op)) ≡ Some (string text)) }
+    ensures others { (es : List (KeyState (Option Set))) (verb rest key text k : List ℕ) (p : Stamp) → first_word rest ≡ Some (key, text) → k ≢ key
+        → let t = keyed_meaning latest_meaning in
+        IfOk (entry_edit verb rest) (λ op. get k (t.show (t.apply es p op)) ≡ get k (t.show es)) }
 {}
