@@ -24,3 +24,6 @@ pub use number::prepare_number;
 pub use spelled::{count_of, residue, signed_of};
 pub use text::prepare_register;
 pub use words::{first_word, only_word};
+
+#[cfg(test)]
+mod tests;
