@@ -111,8 +111,7 @@ impl<T: Tower> Tower for Row<T> {
     }
 
     fn copy_op(&self, alloc: Global, op: &RowOp<T::Op>) -> Result<RowOp<T::Op>, NoMemory> {
-        // Whichever part copies an operation, the copy is equal to it.
-        let part = &self.parts[0];
+        let part = &self.parts[op.part as usize];
         let copy = part.copy_op(alloc, &op.op)?;
         Ok(RowOp {
             part: op.part,
@@ -121,9 +120,11 @@ impl<T: Tower> Tower for Row<T> {
     }
 
     fn same_op(&self, a: &RowOp<T::Op>, b: &RowOp<T::Op>) -> bool {
-        // Whichever part compares two operations, the answer is the same.
-        let part = &self.parts[0];
-        a.part == b.part && part.same_op(&a.op, &b.op)
+        if a.part != b.part {
+            return false;
+        }
+        let part = &self.parts[a.part as usize];
+        part.same_op(&a.op, &b.op)
     }
 
     fn copy_state(
@@ -131,7 +132,7 @@ impl<T: Tower> Tower for Row<T> {
         alloc: Global,
         state: &List<T::State>,
     ) -> Result<List<T::State>, NoMemory> {
-        copy_states(alloc, &self.parts[0], state)
+        copy_states(alloc, self.parts.as_slice(), state)
     }
 
     fn show(&self, alloc: Global, state: &List<T::State>) -> Result<Value, NoMemory> {

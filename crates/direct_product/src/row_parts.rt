@@ -75,19 +75,20 @@ pub(crate) fn settle_states<T: Tower>(
     Ok(settled)
 }
 
-/// A copy of each state. Whichever part copies a state, the copy is equal to it.
+/// A copy of each state, by its part.
 pub(crate) fn copy_states<T: Tower>(
     alloc: Global,
-    part: &T,
+    parts: &[T],
     states: &List<T::State>,
 ) -> Result<List<T::State>, NoMemory>
+    requires { IsState (row_meaning T.meaning parts.now) states.now }
     ensures { IfOk result (λ ss. ss ≡ states.now) }
 {
-    let mut copy = List::new(alloc);
-    for state in &states.items {
-        copy.push(part.copy_state(alloc, state)?)?;
+    let mut copies = List::new(alloc);
+    for (part, state) in parts.iter().zip(&states.items) {
+        copies.push(part.copy_state(alloc, state)?)?;
     }
-    Ok(copy)
+    Ok(copies)
 }
 
 /// The array of the states as their parts show them.

@@ -18,6 +18,11 @@ act-requires-clause-acted g c =
     let within = formed_within g.T.Tower.meaning c.args.self.now.parts.items c.args.x.now.part c.args.x.now.op c.requires.acted in
     (part_at g.T.Tower.meaning _ _ _ _ within (sym c.index-part.ensures)).formed _ c.requires.acted
 
+pub copy_op-requires : goal.copy_op-requires
+copy_op-requires g c =
+    let within = formed_within g.T.Tower.meaning c.args.self.now.parts.items c.args.x.now.part c.args.x.now.op c.requires.acted in
+    (part_at g.T.Tower.meaning _ _ _ _ within (sym c.index-part.ensures)).formed _ c.requires.acted
+
 pub returns-clause-ok : goal.returns-clause-ok
 returns-clause-ok g c =
     let of = g.T.Tower.meaning in
