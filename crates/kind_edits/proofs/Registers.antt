@@ -1,5 +1,5 @@
 -- What registers show after a set that knew of what is there.
-use Rattle.std.proofs.Common.{◌≡◌, ℕ, ◌≤◌, true, IsTrue, IfSome, List, [], ◌∷◌, length, nat_le, codes, Option, None, Some, Ok, refl, ap, arith}
+use Rattle.std.proofs.Common.{◌≡◌, ℕ, ◌≤◌, true, IsTrue, IfSome, List, [], ◌∷◌, length, nat_le, codes, Option, None, Some, Ok, inl, inr, subst, refl, sym, ap, arith}
 use Rattle.std.specs.List.{All, AllByRecursion}
 use Rattle.std.proofs.lemmas.Bool.{cond_both, cond-true}
 use Rattle.std.proofs.lemmas.Bool.Decides.{nat_tests}
@@ -13,6 +13,10 @@ use Rattle.vector_clock.proofs.Causal.{covers_past}
 use Rattle.vector_clock.proofs.Keys.{below_known}
 use Rattle.crdt_laws.specs.Present.{apply_all}
 use Rattle.crdt_laws.specs.declared.small.Entry.{Entry}
+use Rattle.map_crdt.specs.Keyed.{apply_at, keyed_meaning, state_at}
+use Rattle.map_crdt.specs.KeyedLaws.{at-put, at-put_other, same_or_other}
+use Rattle.map_crdt.specs.declared.keyed.KeyOp.{KeyOp}
+use Rattle.map_crdt.specs.declared.keyed.KeyState.{KeyState}
 use Rattle.register_crdts.specs.Latest.{latest_apply, latest_meaning, set_at}
 use Rattle.register_crdts.specs.Several.{held, several_apply, several_meaning}
 use Rattle.register_crdts.specs.Text.{max_text}
@@ -60,3 +64,28 @@ none_beyond d p (h ∷ s) after all =
 
 pub several_state : (d : Clock) (s : List Held) (p : Stamp) (x : List ℕ) → several_meaning.good_at d s → IsAfter d p → several_apply s p x ≡ held p x ∷ []
 several_state d s p x good after = ap (place (λ h. h.stamp) (held p x)) (none_beyond d p s after good.1)
+
+-- the same of the state at a key, after operations at keys
+module _ (key : List ℕ) (p : Stamp) where
+  key_less : (es : List (KeyState (Option Set))) (e : Entry (KeyOp (List ℕ))) → HasLesserKey (state_at latest_meaning es key) p → IsAfter e.stamp.clock p
+      → HasLesserKey (state_at latest_meaning (apply_at latest_meaning es e.op.key e.stamp e.op.op) key) p
+  key_less es e h after = elim (same_or_other key e.op.key) [
+    | inl same ↦
+        (let own : HasLesserKey (state_at latest_meaning es e.op.key) p = subst (λ (k : List ℕ). HasLesserKey (state_at latest_meaning es k) p) same h in
+        let new : HasLesserKey (latest_apply (state_at latest_meaning es e.op.key) e.stamp e.op.op) p = keeps_less (state_at latest_meaning es e.op.key) e.stamp p e.op.op own after in
+        let there = at-put latest_meaning es e.op.key (latest_apply (state_at latest_meaning es e.op.key) e.stamp e.op.op) in
+        subst (λ (k : List ℕ). HasLesserKey (state_at latest_meaning (apply_at latest_meaning es e.op.key e.stamp e.op.op) k) p) (sym same)
+        (subst (λ (s : Option Set). HasLesserKey s p) (sym there) new))
+    | inr differ ↦
+        (let there = at-put_other latest_meaning es e.op.key key (latest_apply (state_at latest_meaning es e.op.key) e.stamp e.op.op) differ in
+        subst (λ (s : Option Set). HasLesserKey s p) (sym there) h)
+  ]
+
+  all_keys_less : (xs : List (Entry (KeyOp (List ℕ)))) (es : List (KeyState (Option Set))) → HasLesserKey (state_at latest_meaning es key) p
+      → AllByRecursion (λ e. IsAfter e.stamp.clock p) xs → HasLesserKey (state_at latest_meaning (apply_all (keyed_meaning latest_meaning) es xs) key) p
+  all_keys_less [] es h all = h
+  all_keys_less (e ∷ xs) es h all = all_keys_less xs (apply_at latest_meaning es e.op.key e.stamp e.op.op) (key_less es e h all.0) all.1
+
+  pub known_puts : (xs : List (Entry (KeyOp (List ℕ)))) → All (λ e. IsAfter e.stamp.clock p) xs
+      → HasLesserKey (state_at latest_meaning (apply_all (keyed_meaning latest_meaning) [] xs) key) p
+  known_puts xs all = all_keys_less xs [] tt (recursion_from_All (λ e. IsAfter e.stamp.clock p) xs all)

@@ -1,9 +1,10 @@
 -- Sums and products of signed numbers, by their residues.
-use Rattle.std.proofs.Common.{◌≡◌, ℕ, zero, suc, ◌+◌, ◌-◌, ◌*◌, ◌/◌, ◌%◌, ◌<◌, true, false, nat_lt, ℤ, pos, negsuc, ◌+ℤ◌, ◌*ℤ◌, neg_ℤ, unsigned_abs, inl, inr, sym, ◌∙◌, ap, arith}
-use Rattle.std.specs.Int.{int_rem_euclid}
+use Rattle.std.proofs.Common.{◌≡◌, ℕ, zero, suc, ◌+◌, ◌-◌, ◌*◌, ◌/◌, ◌%◌, ◌<◌, true, false, nat_lt, ℤ, pos, negsuc, ◌+ℤ◌, ◌*ℤ◌, neg_ℤ, unsigned_abs, FitsSigned, ◌^◌, inl, inr, sym, ◌∙◌, ap, arith}
+use Rattle.std.specs.Int.{cast_signed, int_rem_euclid, w64}
 use Rattle.std.proofs.Math.Nat.{add-mod-mod, add-mul-mod_self_right, div-add-mod', mod-eq_of_lt, mod-lt, mul-mod_left}
 use Rattle.std.proofs.lemmas.Bool.{cases_lt}
 use Rattle.std.proofs.lemmas.Bool.Decides.{nat_tests}
+use Rattle.std.proofs.lemmas.Int.{to_z-of_z}
 use Rattle.std.proofs.lemmas.Nat.{mul-mod_second}
 use Rattle.number_crdts.specs.Number.{modulus_of}
 use Rattle.number_crdts.specs.NumberLaws.{residue-mod}
@@ -57,3 +58,13 @@ module _ (n : ℕ) (some : 0 < n) where
   pub rem-again : (z : ℤ) → rem z % n ≡ rem z
   rem-again (pos a) = mod-eq_of_lt (mod-lt a some)
   rem-again (negsuc a) = mod-eq_of_lt (omega arith)
+
+-- a signed number of 64 bits is what its residue by 2^64 stands for
+pub signed_back : (z : ℤ) → FitsSigned w64 z → cast_signed w64 (unsigned_abs (int_rem_euclid z (pos (modulus_of 0)))) ≡ z
+signed_back (pos n) fits =
+    let own : n % 2 ^ 64 ≡ n = mod-eq_of_lt (omega (arith, fits.sfits)) in
+    ap (cast_signed w64) own ∙ to_z-of_z w64 (pos n) fits
+signed_back (negsuc n) fits =
+    let own : n % 2 ^ 64 ≡ n = mod-eq_of_lt (omega (arith, fits.sfits)) in
+    let bits : 2 ^ 64 - 1 - n % 2 ^ 64 ≡ 2 ^ 64 - suc n = omega (arith, own) in
+    ap (cast_signed w64) bits ∙ to_z-of_z w64 (negsuc n) fits

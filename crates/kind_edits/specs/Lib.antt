@@ -1,3 +1,4 @@
+pub mod Accepted
 pub mod FaultText
 pub mod FlagEdit
 pub mod KeyEdit

@@ -3,12 +3,12 @@
 //! The laws of the kinds say what is shown after the operation of an edit is applied. It is applied to the state from which the edit
 //! was made, at a stamp that knows of all that is in there. An edit that another member makes meanwhile may still change what comes
 //! of it, as the table of its kind says: these laws speak of the moment after the edit.
-ghost use Rattle.std.specs.Prelude.{◌≡◌, ◌≢◌, ◌^◌, ◌<◌, ◌≤◌, ◌⊎◌, ◌↔◌, ◌∷◌, ◌++◌, [], ℕ, ℤ, pos, ◌+ℤ◌, ◌*ℤ◌, FitsSigned, List, Option, Some, true, false, length, codes, slice_get, IsTrue, IsFalse, IfOk, IfSome, IsOkAnd};
+ghost use Rattle.std.specs.Prelude.{◌≡◌, ◌≢◌, ◌^◌, ◌<◌, ◌≤◌, ◌⊎◌, ◌↔◌, ◌∷◌, ◌++◌, [], ℕ, ℤ, pos, ◌+ℤ◌, ◌*ℤ◌, FitsSigned, List, Option, Some, Ok, true, false, length, codes, slice_get, IsTrue, IsFalse, IfOk, IfSome, IsOkAnd};
 ghost use Rattle.std.specs.Fmt.{decimal, signed_decimal};
 ghost use Rattle.std.specs.Int.{w64};
 ghost use Rattle.std.specs.List.{All, AllPairs};
 ghost use Rattle.serde_json.specs.Data.{boolean, no_items, item, array, number, string};
-ghost use Rattle.serde_json.specs.Find.{get};
+ghost use Rattle.serde_json.specs.Find.{get, of_integer};
 ghost use Rattle.vector_clock.specs.declared.clock.Clock.{Clock};
 ghost use Rattle.vector_clock.specs.declared.stamp.Stamp.{Stamp};
 ghost use Rattle.vector_clock.specs.Stamp.{IsAfter, is_less, key_of};
@@ -18,13 +18,15 @@ ghost use Rattle.action_tables.specs.Table.{ActionTable, next_of, table_meaning}
 ghost use Rattle.flag_crdts.specs.Flags.{off_table, on_table};
 ghost use Rattle.flag_crdts.specs.Ladder.{ladder_meaning};
 ghost use Rattle.map_crdt.specs.Keyed.{keyed_meaning, max_key, state_at};
+ghost use Rattle.map_crdt.specs.declared.keyed.KeyOp.{KeyOp};
 ghost use Rattle.map_crdt.specs.declared.keyed.KeyState.{KeyState};
 ghost use Rattle.register_crdts.specs.Latest.{latest_meaning};
 ghost use Rattle.register_crdts.specs.Several.{several_meaning};
 ghost use Rattle.register_crdts.specs.Text.{max_text};
 ghost use Rattle.register_crdts.specs.declared.latest.Set.{Set};
 ghost use Rattle.register_crdts.specs.declared.several.Held.{Held};
-ghost use Rattle.number_crdts.specs.Number.{modulus_of, number_meaning, shown_mod};
+ghost use Rattle.number_crdts.specs.Number.{NumberOp, modulus_of, number_meaning, shown_mod};
+ghost use Rattle.kind_edits.specs.Accepted.{IsNumberEdit};
 ghost use Rattle.kind_edits.specs.FlagEdit.{off_flag_edit, on_flag_edit};
 ghost use Rattle.kind_edits.specs.KeyEdit.{entry_edit, tally_edit};
 ghost use Rattle.kind_edits.specs.NameEdit.{choice_edit, table_edit};
@@ -49,11 +51,33 @@ pub fn spelled_numbers()
 {}
 
 /// The residue of a signed number is below the modulus. A number below the modulus is its own, and the modulus may be added to any
-/// number without a change of its residue.
+/// number without a change of its residue. By 2^64, the residue of a signed number of 64 bits is shown as that number.
 pub fn residues_of_numbers()
     ensures below { (m : ℕ) (z : ℤ) → residue m z < modulus_of m }
     ensures own { (m n : ℕ) → n < modulus_of m → residue m (pos n) ≡ n }
     ensures round { (m : ℕ) (z : ℤ) → residue m (pos (modulus_of m) +ℤ z) ≡ residue m z }
+    ensures shown { (z : ℤ) → FitsSigned w64 z → shown_mod 0 (residue 0 z) ≡ of_integer z }
+{}
+
+/// An edit is accepted exactly where its words have one of these forms, and then it stands for this operation. A flag's `on` is
+/// operation 2 where on wins, and 1 where off wins. A value and an operation of a table stand for their numbers.
+pub fn accepted_edits()
+    ensures number { (m : ℕ) (verb rest : List ℕ) (op : NumberOp) → (number_edit m verb rest ≡ Ok op)
+        ↔ ((z : ℤ) × FitsSigned w64 z × (rest ≡ signed_decimal z) × IsNumberEdit m verb z op) }
+    ensures on_flag { (verb rest : List ℕ) (op : ℕ) → (on_flag_edit verb rest ≡ Ok op)
+        ↔ ((rest ≡ []) × (((verb ≡ codes "on") × (op ≡ 2)) ⊎ ((verb ≡ codes "off") × (op ≡ 1)))) }
+    ensures off_flag { (verb rest : List ℕ) (op : ℕ) → (off_flag_edit verb rest ≡ Ok op)
+        ↔ ((rest ≡ []) × (((verb ≡ codes "on") × (op ≡ 1)) ⊎ ((verb ≡ codes "off") × (op ≡ 2)))) }
+    ensures choice { (values : List (List ℕ)) (verb rest : List ℕ) (op : ℕ) → AllPairs (λ a b. a ≢ b) values
+        → (choice_edit values verb rest ≡ Ok op) ↔ ((verb ≡ codes "set") × (slice_get values op ≡ Some rest)) }
+    ensures table { (ops : List (List ℕ)) (verb rest : List ℕ) (op : ℕ) → AllPairs (λ a b. a ≢ b) ops
+        → (table_edit ops verb rest ≡ Ok op) ↔ ((verb ≡ codes "do") × (slice_get ops op ≡ Some rest)) }
+    ensures register { (verb rest op : List ℕ) → (register_edit verb rest ≡ Ok op)
+        ↔ ((verb ≡ codes "set") × (length rest ≤ max_text) × (op ≡ rest)) }
+    ensures tally { (m : ℕ) (verb rest : List ℕ) (op : KeyOp NumberOp) → (tally_edit m verb rest ≡ Ok op)
+        ↔ ((z : ℤ) × IsWord op.key × (length op.key ≤ max_key) × FitsSigned w64 z × (rest ≡ op.key ++ 32 ∷ signed_decimal z) × IsNumberEdit m verb z op.op) }
+    ensures entry { (verb rest : List ℕ) (op : KeyOp (List ℕ)) → (entry_edit verb rest ≡ Ok op)
+        ↔ ((verb ≡ codes "put") × (length op.key ≤ max_key) × (length op.op ≤ max_text) × (first_word rest ≡ Some (op.key, op.op))) }
 {}
 
 /// `add` and the spelling of a number show the sum of what was there and the number, and `mul` shows the product, each by the
@@ -143,13 +167,16 @@ pub fn tallies_are_changed()
         IfOk (tally_edit m verb rest) (λ op. get k (t.show (t.apply es p op)) ≡ get k (t.show es)) }
 {}
 
-/// `put`, a key and a text show that text at that key, where what is there has a lesser key than the edit. At every other key they
-/// show what was shown.
+/// `put`, a key and a text show that text at that key, where what is there has a lesser key than the edit. That holds after any
+/// edits of which the edit's member knew. At every other key they show what was shown.
 pub fn entries_are_put()
     ensures put { (es : List (KeyState (Option Set))) (rest key text : List ℕ) (p : Stamp) → first_word rest ≡ Some (key, text)
         → length key ≤ max_key → length text ≤ max_text → IfSome (state_at latest_meaning es key) (λ old. IsTrue (is_less old.key (key_of p)))
         → let t = keyed_meaning latest_meaning in
         IsOkAnd (entry_edit (codes "put") rest) (λ op. get key (t.show (t.apply es p op)) ≡ Some (string text)) }
+    ensures known { (xs : List (Entry (KeyOp (List ℕ)))) (key : List ℕ) (p : Stamp) → All (λ e. IsAfter e.stamp.clock p) xs
+        → let t = keyed_meaning latest_meaning in
+        IfSome (state_at latest_meaning (apply_all t t.init xs) key) (λ old. IsTrue (is_less old.key (key_of p))) }
     ensures others { (es : List (KeyState (Option Set))) (verb rest key text k : List ℕ) (p : Stamp) → first_word rest ≡ Some (key, text) → k ≢ key
         → let t = keyed_meaning latest_meaning in
         IfOk (entry_edit verb rest) (λ op. get k (t.show (t.apply es p op)) ≡ get k (t.show es)) }

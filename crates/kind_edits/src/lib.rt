@@ -15,9 +15,9 @@ pub use fault::EditError;
 pub use flag::{prepare_off_flag, prepare_on_flag};
 pub use key::{prepare_entry, prepare_tally};
 pub use laws::{
-    choices_are_set, entries_are_put, latest_is_set, numbers_are_changed, off_flags_are_switched,
-    on_flags_are_switched, residues_of_numbers, several_are_set, spelled_numbers, tables_are_done,
-    tallies_are_changed, words_of_edits,
+    accepted_edits, choices_are_set, entries_are_put, latest_is_set, numbers_are_changed,
+    off_flags_are_switched, on_flags_are_switched, residues_of_numbers, several_are_set,
+    spelled_numbers, tables_are_done, tallies_are_changed, words_of_edits,
 };
 pub use name::{prepare_choice, prepare_table};
 pub use number::prepare_number;
