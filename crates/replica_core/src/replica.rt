@@ -1,10 +1,9 @@
 ghost use Rattle.std.specs.Prelude.{◌≡◌};
 ghost use Rattle.vector_clock.specs.Clock.{max_members};
 
-use crate::copies::copy_beyond;
 use crate::pool::sift;
 use crate::rows::{floor, row, rows_after, with_row};
-use crdt_laws::{List, NoMemory, Ops, Tower, Txt};
+use crdt_laws::{List, NoMemory, Ops, Tower, Txt, copy_beyond};
 use std::alloc::Global;
 use std::marker::Model;
 use vector_clock::{Clock, Stamp};

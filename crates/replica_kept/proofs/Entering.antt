@@ -18,7 +18,7 @@ use Rattle.crdt_laws.proofs.Filters.{all-append, apart-filter, rising-filter}
 use Rattle.crdt_laws.proofs.Interleave.{interleaved_canonical, rising-interleaved}
 use Rattle.crdt_laws.proofs.Place.{rising-canonical}
 use Rattle.crdt_laws.proofs.Members.{Contains-canonical, Contains-cases, Contains-front, Contains-more, canonical_same, filter_has, filter_inside, filter_passed}
-use Rattle.weave_model.proofs.Theorems.{apart-canonical}
+use Rattle.weave_core.proofs.Theorems.{apart-canonical}
 use Rattle.replica_model.proofs.Names.{named_in}
 use Rattle.replica_model.proofs.Pools.{each_from}
 use Rattle.replica_model.proofs.Ready.{covers_on}

@@ -9,7 +9,7 @@ use Rattle.crdt_laws.specs.declared.small.Entry.{Entry}
 use Rattle.crdt_laws.specs.Interleaved.{interleaved}
 use Rattle.crdt_laws.specs.Sets.{AreIssued, IsRising, beyond, canonical, has_id, place, union}
 use Rattle.crdt_laws.specs.Tower.{Meaning, IsLawful, IsStampOf}
-use Rattle.weave_model.specs.Deliver.{Weave, deliver, trim}
+use Rattle.weave_core.specs.Deliver.{Weave, deliver, trim}
 use Rattle.replica_model.specs.Replica.{Batch, heard, heard_header, meet_all}
 use Rattle.forgetting_model.specs.Kept.{Kept}
 use Rattle.forgetting_model.specs.Ledger.{Ledger, come, own_row, raised}

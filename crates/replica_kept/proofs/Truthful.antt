@@ -17,7 +17,7 @@ use Rattle.crdt_laws.specs.Tower.{Meaning, IsIssued, IsLawful, IsStampOf}
 use Rattle.crdt_laws.proofs.Both.{honest_part, rising_apart}
 use Rattle.crdt_laws.proofs.Filters.{all_pass, apart-filter, rising-filter}
 use Rattle.crdt_laws.proofs.Members.{each}
-use Rattle.weave_model.specs.Deliver.{IsWell, is_high, trim}
+use Rattle.weave_core.specs.Deliver.{IsWell, is_high, trim}
 use Rattle.replica_model.specs.Family.{IsSoundReplica, Thing, batch, batches, operations, replica}
 use Rattle.replica_model.specs.Replica.{Replica, Batch, floor, row}
 use Rattle.replica_model.proofs.Families.{batch_at, issued_at, sound_at}

@@ -60,7 +60,7 @@ impl<T: Tower> Replica<T> {
     ghost use Rattle.vector_clock.specs.Stamp.{IsStamp, id_of};
     ghost use Rattle.crdt_laws.specs.Interleaved.{interleaved};
     ghost use Rattle.crdt_laws.specs.Sets.{AreIssued, IsRising, beyond};
-    ghost use Rattle.weave_model.specs.Deliver.{deliver, trim};
+    ghost use Rattle.weave_core.specs.Deliver.{deliver, trim};
     ghost use Rattle.replica_model.specs.Replica.{meet_all};
     ghost use Rattle.forgetting_model.specs.Ledger.{own_row, raised};
     ghost use Rattle.forgetting_model.specs.Made.{kept_absorbed};

@@ -8,7 +8,7 @@ use Rattle.std.proofs.lemmas.List.Elements.{All-from_recursion, recursion_from_A
 use Rattle.vector_clock.specs.declared.clock.Clock.{Clock}
 use Rattle.crdt_laws.specs.declared.small.Entry.{Entry}
 use Rattle.crdt_laws.specs.Tower.{Meaning, IsIssued, IsLawful, IsState}
-use Rattle.weave_model.specs.Deliver.{IsRun}
+use Rattle.weave_core.specs.Deliver.{IsRun}
 use Rattle.weave_core.proofs.Placed.{all_take, apart-take, rising-take}
 use Rattle.reset_products.specs.Cut.{IsCleanPrefix, clean_cut, is_clean_prefix}
 use Rattle.reset_products.specs.CutLaws.{IsClean, clean_from, clean_to, cut_clean, cut_within}

@@ -1,7 +1,7 @@
 ghost use Rattle.std.specs.Prelude.{◌≡◌, IsTrue, IfOk};
 
 use crate::cut::clean_cut;
-use crdt_laws::{NoMemory, Ops, Tower, beyond, is_within, place_in};
+use crdt_laws::{NoMemory, Ops, Tower, beyond, copy_ops, is_within, place_in};
 use serde_json::Value;
 use std::alloc::Global;
 use std::marker::Model;
@@ -65,17 +65,6 @@ impl<T: Tower> Observed<T> {
         let base = self.part.copy_state(alloc, &state.base)?;
         fold_plain(alloc, &self.part, base, &state.log)
     }
-}
-
-/// The same operations again.
-fn copy_log<T: Tower>(alloc: Global, tower: &T, log: &Ops<T::Op>) -> Result<Ops<T::Op>, NoMemory>
-    ensures { IfOk result (λ l. l ≡ log.now) }
-{
-    let mut copy = Ops::new(alloc);
-    for e in log.as_slice() {
-        copy.push(e.stamp, tower.copy_op(alloc, &e.op)?)?;
-    }
-    Ok(copy)
 }
 
 impl<T: Tower> Tower for Observed<T> {
@@ -187,7 +176,7 @@ impl<T: Tower> Tower for Observed<T> {
     ) -> Result<ObservedState<T>, NoMemory> {
         Ok(ObservedState {
             base: self.part.copy_state(alloc, &state.base)?,
-            log: copy_log(alloc, &self.part, &state.log)?,
+            log: copy_ops(alloc, &self.part, state.log.as_slice())?,
         })
     }
 

@@ -3,7 +3,7 @@ ghost use Rattle.std.specs.List.{Contains};
 ghost use Rattle.crdt_laws.specs.Present.{document};
 ghost use Rattle.crdt_laws.specs.Sets.{IsHonest};
 ghost use Rattle.list_crdt.specs.Cells.{IsRising};
-ghost use Rattle.weave_model.specs.Deliver.{IsRun};
+ghost use Rattle.weave_core.specs.Deliver.{IsRun};
 ghost use Rattle.rich_text.specs.Marked.{at};
 ghost use Rattle.rich_text.specs.Over.{stack_of};
 ghost use Rattle.rich_text.specs.Shown.{IsShown};

@@ -3,13 +3,13 @@ use Rattle.std.proofs.Common.{Bool, ℕ, ◌≡◌, true, false, List, [], ◌�
 use Rattle.std.specs.List.{AllByRecursion}
 use Rattle.vector_clock.specs.declared.stamp.Stamp.{Stamp}
 use Rattle.crdt_laws.specs.declared.small.Entry.{Entry}
-use Rattle.weave_model.specs.Deliver.{Weave}
+use Rattle.weave_core.specs.Deliver.{Weave}
 use Rattle.vector_clock.specs.Stamp.{same_id, is_below, id_of}
 use Rattle.crdt_laws.specs.Tower.{Meaning, IsLawful, IsIssued, Lacks}
 use Rattle.crdt_laws.specs.Present.{acted, present}
 use Rattle.crdt_laws.specs.Sets.{place, IsRising, is_beyond}
-use Rattle.weave_model.specs.Deliver.{deliver, woven_with, is_high}
-use Rattle.weave_model.proofs.Acts
+use Rattle.weave_core.specs.Deliver.{deliver, woven_with, is_high}
+use Rattle.weave_core.proofs.Acts
 use Rattle.std.specs.List.{All, filter}
 use Rattle.std.proofs.Common.{refl, ◌∙◌, ◌≤◌, ◌<◌, ap, ap₂, arith}
 use Rattle.std.specs.Prelude.{if◌then◌else◌}
@@ -18,8 +18,8 @@ use Rattle.std.proofs.lemmas.List.Elements.{recursion_from_All, All-from_recursi
 use Rattle.vector_clock.specs.declared.clock.Clock.{Clock}
 use Rattle.vector_clock.specs.Stamp.{IsStamp}
 use Rattle.crdt_laws.specs.Entry.{entry}
-use Rattle.weave_model.proofs.Swap.{pair}
-use Rattle.weave_model.specs.Deliver.{IsWell, trim}
+use Rattle.weave_core.proofs.Swap.{pair}
+use Rattle.weave_core.specs.Deliver.{IsWell, trim}
 use Rattle.crdt_laws.proofs.Acts.{acted-issued}
 use Rattle.crdt_laws.proofs.Filters.{all-map, all-place, rising-filter}
 use Rattle.vector_clock.proofs.Ordered.{all-filter}

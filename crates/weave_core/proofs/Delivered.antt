@@ -7,7 +7,7 @@ use Rattle.crdt_laws.specs.Present.{acted, present}
 use Rattle.crdt_laws.specs.Sets.{place}
 use Rattle.crdt_laws.specs.Tower.{Meaning}
 use Rattle.std.specs.Prelude.{if◌then◌else◌}
-use Rattle.weave_model.specs.Deliver.{Weave, deliver, is_high, woven_with}
+use Rattle.weave_core.specs.Deliver.{Weave, deliver, is_high, woven_with}
 
 -- the parts of an arrival
 pub arrived : {State Op : Type 0} (t : Meaning State Op) (w : Weave State Op) (s : Stamp) (op form : Op) (state : State) (h joined_h : List (Entry Op)) → h ≡ w.history → entry s form ≡ present t h (entry s op)

@@ -16,10 +16,10 @@ use Rattle.crdt_laws.specs.Entry.{entry}
 use Rattle.crdt_laws.specs.Present.{acted, apply_all, document_from, own_forms, present, with_next}
 use Rattle.crdt_laws.specs.Tower.{Meaning, IsIssued, IsLawful, Lacks}
 use Rattle.crdt_laws.proofs.Ready.{IsReady, drop_item, left_next, may_follow, ready_next}
-use Rattle.weave_model.specs.Deliver.{IsRun, is_high}
+use Rattle.weave_core.specs.Deliver.{IsRun, is_high}
 use Rattle.weave_core.specs.Deliver.{kept_with}
-use Rattle.weave_core.proofs.Kept
-use Rattle.weave_model.proofs.Kept.{present_kept}
+use Rattle.weave_core.proofs.KeptForms
+use Rattle.weave_core.proofs.Kept.{present_kept}
 use Rattle.vector_clock.proofs.Ordered.{all-filter}
 
 -- The operations xs are left, h are the kept forms of those before them, and the state s with xs gives d.
@@ -77,7 +77,7 @@ module _ {State Op : Type 0} (t : Meaning State Op) (law : IsLawful t) where
         forms = with_next t es x;
         left = left_next t law s s' es (with_next t es x) xs x d c refl w.left;
         ready = subst (λ z. IsReady t z (with_next t es x) xs) (sym c) (ready_next t law s es xs x w.ready);
-        kept = b ∙ ap (λ l. kept_with t l x) w.kept ∙ Kept.kept_is t n law es x w.ready.forms w.ready.issued.0;
+        kept = b ∙ ap (λ l. kept_with t l x) w.kept ∙ KeptForms.kept_is t n law es x w.ready.forms w.ready.issued.0;
       }
 
   pub way_next : (s s' : State) (h h' l : List (Entry Op)) (i : ℕ) (x : Entry Op) (d : State) → i < length l → x ≡ get_or l i x

@@ -2,7 +2,7 @@ ghost use Rattle.std.specs.Prelude.{◌≡◌, ℕ, IfOk};
 ghost use Rattle.crdt_laws.specs.Document.{MayFollow};
 ghost use Rattle.crdt_laws.specs.Present.{document_from, present};
 ghost use Rattle.crdt_laws.specs.Sets.{AreIssued};
-ghost use Rattle.weave_model.specs.Deliver.{IsRun};
+ghost use Rattle.weave_core.specs.Deliver.{IsRun};
 ghost use Rattle.weave_core.specs.Deliver.{kept_with};
 
 use crdt_laws::{Entry, NoMemory, Ops, Tower, acted_forms, present_form};

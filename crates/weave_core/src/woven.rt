@@ -4,7 +4,7 @@ ghost use Rattle.crdt_laws.specs.Entry.{entry};
 ghost use Rattle.crdt_laws.specs.Present.{acted};
 ghost use Rattle.crdt_laws.specs.Sets.{AreIssued, IsRising, place};
 ghost use Rattle.crdt_laws.specs.Tower.{IsIssued};
-ghost use Rattle.weave_model.specs.Deliver.{is_high};
+ghost use Rattle.weave_core.specs.Deliver.{is_high};
 
 use crdt_laws::{NoMemory, Ops, Tower, acted_forms, beyond, place_in, present_form};
 use std::alloc::Global;
@@ -20,7 +20,7 @@ pub struct Woven<T: Tower> {
 }
 
 impl<T: Tower> Model for Woven<T> {
-    ghost use Rattle.weave_model.specs.Deliver.{Weave};
+    ghost use Rattle.weave_core.specs.Deliver.{Weave};
 
     ghost Value = { Weave T.State T.Op };
 
@@ -58,7 +58,7 @@ impl<T: Tower> Woven<T> {
     ghost use Rattle.crdt_laws.specs.declared.small.Entry.{Entry};
     ghost use Rattle.crdt_laws.specs.Entry.{entry};
     ghost use Rattle.crdt_laws.specs.Sets.{AreApart, AreIssued, IsClosed, IsHonest};
-    ghost use Rattle.weave_model.specs.Deliver.{nothing, deliver, trim, stands_for, IsWell, MayArrive};
+    ghost use Rattle.weave_core.specs.Deliver.{nothing, deliver, trim, stands_for, IsWell, MayArrive};
 
     /// Nothing has arrived.
     ///

@@ -2,7 +2,7 @@ use Rattle.std.proofs.Common.{◌≡◌, ◌↔◌, [], List, Contains, sym, ◌
 use Rattle.std.proofs.lemmas.Result.{IfOk-weaker}
 use Rattle.crdt_laws.specs.Present.{document_from}
 use Rattle.list_crdt.specs.Cells.{IsRising}
-use Rattle.weave_model.specs.Deliver.{IsRun}
+use Rattle.weave_core.specs.Deliver.{IsRun}
 use Rattle.rich_text.specs.declared.marked.RichCell.{RichCell}
 use Rattle.rich_text.specs.Marked.{IsRichText, at}
 use Rattle.rich_text.specs.Over.{stack_of}

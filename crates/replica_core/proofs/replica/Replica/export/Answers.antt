@@ -1,9 +1,18 @@
 use Rattle.std.proofs.Common.{◌∙◌, ◌≡◌, ap, subst, sym}
 use Rattle.replica_model.specs.Replica.{Replica, left_out, members}
+use Rattle.crdt_laws.specs.Sets.{AreFormed}
+use Rattle.crdt_laws.proofs.Formed.{all_formed}
 use Rattle.replica_core.specs.Kept.{IsBatchUpTo, IsKeptBatch}
 use Rattle.replica_core.proofs.Export.{kept_sent, sent_from, sent_is, up_to_sent}
 use Rattle.replica_core.proofs.replica.Replica.export.Goals as goal
 use Rattle.replica_core.proofs.replica.Replica.export.Goals.{in-Some, in-None}
+
+pub copy_beyond-requires : goal.copy_beyond-requires
+copy_beyond-requires g c =
+    let t = g.T.Tower.meaning c.args.tower.now in
+    let r = c.args.self.now in
+    let law = g.met.T.Tower.lawful c.args.tower.now in
+    record { formed = subst (AreFormed t) (sym (c.as_slice.ensures ∙ ap (λ (q : Replica _). q.delivered) c.self.view_is)) (all_formed t (members r) law r.delivered c.requires.kept.delivered.issued) }
 
 pub returns : goal.returns
 returns g c =

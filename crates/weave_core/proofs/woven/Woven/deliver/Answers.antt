@@ -1,8 +1,8 @@
 use Rattle.std.proofs.Common.{◌≡◌, ◌∙◌, sym, subst, ap}
 use Rattle.crdt_laws.specs.Entry.{entry}
-use Rattle.weave_model.specs.Deliver.{deliver, IsWell}
-use Rattle.weave_model.proofs.Arrivals
-use Rattle.weave_model.proofs.Swap.{pair}
+use Rattle.weave_core.specs.Deliver.{deliver, IsWell}
+use Rattle.weave_core.proofs.Arrivals
+use Rattle.weave_core.proofs.Swap.{pair}
 use Rattle.weave_core.proofs.Again
 use Rattle.weave_core.proofs.Delivered.{arrived}
 use Rattle.weave_core.proofs.woven.Woven.deliver.Goals as goal

@@ -1,6 +1,6 @@
 use Rattle.std.proofs.Common.{◌≡◌, ◌∙◌, sym, subst, ap, ap₂}
-use Rattle.weave_model.specs.Deliver.{trim, IsWell}
-use Rattle.weave_model.proofs.Swap.{pair}
+use Rattle.weave_core.specs.Deliver.{trim, IsWell}
+use Rattle.weave_core.proofs.Swap.{pair}
 use Rattle.weave_core.proofs.Again
 use Rattle.weave_core.proofs.woven.Woven.trim.Goals as goal
 

@@ -1,8 +1,8 @@
 use Rattle.std.proofs.lemmas.List.Elements.{recursion_from_All}
 use Rattle.crdt_laws.specs.declared.small.Entry.{Entry}
 use Rattle.crdt_laws.specs.Tower.{IsIssued}
-use Rattle.weave_model.proofs.Plain
-use Rattle.weave_model.proofs.laws.plain_order.Goals as goal
+use Rattle.weave_core.proofs.Plain
+use Rattle.weave_core.proofs.laws.plain_order.Goals as goal
 
 pub returns : goal.returns
 returns g c =

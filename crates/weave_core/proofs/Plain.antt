@@ -11,11 +11,11 @@ use Rattle.crdt_laws.specs.Sets.{AreApart, IsHonest, canonical, place}
 use Rattle.crdt_laws.proofs.Acts as Laws
 use Rattle.crdt_laws.proofs.Acts.{acts_at-above}
 use Rattle.crdt_laws.proofs.Filters.{all-place, all-map}
-use Rattle.weave_model.specs.Deliver.{Weave, deliver, is_high, nothing, weave_all, woven_with}
-use Rattle.weave_model.proofs.Acts
-use Rattle.weave_model.proofs.Acts.{acts_at-level, acts_at-concurrent}
-use Rattle.weave_model.proofs.Theorems
-use Rattle.weave_model.proofs.Theorems.{Pairs, pairs_from}
+use Rattle.weave_core.specs.Deliver.{Weave, deliver, is_high, nothing, weave_all, woven_with}
+use Rattle.weave_core.proofs.Acts
+use Rattle.weave_core.proofs.Acts.{acts_at-level, acts_at-concurrent}
+use Rattle.weave_core.proofs.Theorems
+use Rattle.weave_core.proofs.Theorems.{Pairs, pairs_from}
 
 filter_none : {X : Type 0} (p : X → Bool) (l : List X) → AllByRecursion (λ e. p e ≡ false) l → filter p l ≡ []
 filter_none p [] h = refl
