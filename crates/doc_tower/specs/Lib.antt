@@ -1,2 +1,4 @@
 pub mod Either
 pub mod EitherLaws
+pub mod Kinds
+pub mod KindLaws
