@@ -2,7 +2,7 @@ use Rattle.std.proofs.Common.{◌≡◌, ◌+◌, ◌-◌, Some, Ok, length, sym
 use Rattle.replica_model.specs.Family as family
 use Rattle.replica_model.specs.Replica.{merged}
 use Rattle.replica_core.specs.Kept.{IsKeptBatch}
-use Rattle.lab_model.specs.Lab.{effect, merge_under, thing_at, with_thing}
+use Rattle.lab_model.specs.Lab.{effect, merge_under, pair_members, thing_at, with_thing}
 use Rattle.lab_model.specs.Text.{delivered_text}
 use Rattle.replica_cmd.specs.Number.{number_op}
 use Rattle.replica_cmd.specs.Things.{contents}
@@ -12,7 +12,19 @@ use Rattle.std.specs.Fmt.{decimal}
 use Rattle.std.proofs.Common.{◌++◌, refl}
 use Rattle.replica_cmd.proofs.Stepping.{accepted_from}
 use Rattle.replica_cmd.proofs.lab.Lab.merge.Goals as goal
-use Rattle.number_crdts.specs.Number.{number_meaning}
+use Rattle.number_crdts.specs.Number.{add_meaning, mul_action, number_meaning}
+use Rattle.number_crdts.specs.NumberLaws.{add_lawful, mul_lawful}
+use Rattle.semidirect_product.specs.StackLaws.{stack_lawful}
+use Rattle.crdt_laws.proofs.Formed.{all_formed}
+
+pub copy_batch-requires : goal.copy_batch-requires
+copy_batch-requires c =
+    let lab = contents c.args.self.now in
+    let b = c.in_default-Some-Batch.batch in
+    let there : thing_at lab c.args.name ≡ Some (family.batch b) = search rules in
+    let law = stack_lawful (add_meaning 0) (add_lawful 0) (mul_action 0) (mul_lawful 0) in
+    rw (c.number.ensures.low, c.number.ensures.high)
+    (all_formed (number_meaning 0) pair_members law b.ops (kept_at lab c.args.name (family.batch b) c.requires.kept there).ops.issued)
 
 pub merge-requires-clause-kept : goal.merge-requires-clause-kept
 merge-requires-clause-kept c =
