@@ -1,4 +1,4 @@
-ghost use Rattle.std.specs.Prelude.{◌≤◌, IsTrue, IfOk};
+ghost use Rattle.std.specs.Prelude.{◌≡◌, ◌≤◌, IsTrue, IfOk};
 ghost use Rattle.vector_clock.specs.Clock.{max_entry};
 ghost use Rattle.crdt_laws.specs.Tower.{IsStampOf};
 
@@ -166,11 +166,7 @@ fn acted<T: Tower<Op = Txt>>(alloc: Global, tower: &T, y: &Txt, x: &Txt) -> Resu
 }
 
 // A copy of a state.
-fn copied_state<T: Tower>(
-    alloc: Global,
-    tower: &T,
-    state: &T::State,
-) -> Result<T::State, NoMemory>
+fn copied_state<T: Tower>(alloc: Global, tower: &T, state: &T::State) -> Result<T::State, NoMemory>
     requires { (T.meaning tower.now).good 3 state.now }
     ensures { IfOk result (λ s. s ≡ state.now) }
 {
