@@ -57,11 +57,7 @@ fn after_all<T: Tower>(alloc: Global, tower: &T, ops: &[T::Op]) -> Result<T::Sta
 }
 
 // A copy of a state.
-fn copied_state<T: Tower>(
-    alloc: Global,
-    tower: &T,
-    state: &T::State,
-) -> Result<T::State, NoMemory>
+fn copied_state<T: Tower>(alloc: Global, tower: &T, state: &T::State) -> Result<T::State, NoMemory>
     requires { (T.meaning tower.now).good 3 state.now }
     ensures { IfOk result (λ s. s ≡ state.now) }
 {
