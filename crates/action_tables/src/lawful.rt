@@ -38,7 +38,7 @@ impl LawfulTable {
 
     /// The same lawful table again. `NoMemory` comes where it runs out of memory.
     pub fn copy(&self, alloc: Global) -> Result<LawfulTable, NoMemory>
-        ensures { IfOk result (λ l. l.table ≡ self.now.table) }
+        ensures { IfOk result (λ l. l ≡ self.now) }
     {
         let table = &self.table;
         Ok(LawfulTable {

@@ -3,6 +3,7 @@
 #![tactic(auto)]
 
 mod canonical;
+mod copies;
 mod fault;
 mod field;
 mod kind;

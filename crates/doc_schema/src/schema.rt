@@ -1,6 +1,7 @@
 ghost use Rattle.std.specs.Prelude.{◌≡◌, IfOk};
 
 use crate::canonical::schema_value;
+use crate::copies::{copy_fields, places_of};
 use crate::fault::SchemaError;
 use crate::field::{Fields, read_fields};
 use crate::kind::Field;
@@ -129,6 +130,18 @@ impl Schema {
             members: written.members as u8,
             fields: list,
             places,
+        })
+    }
+
+    /// The same schema again. `NoMemory` comes where it runs out of memory.
+    pub fn copy(&self, alloc: Global) -> Result<Schema, NoMemory>
+        ensures { IfOk result (λ s. s ≡ self.now) }
+    {
+        Ok(Schema {
+            doc: self.doc.copy(alloc)?,
+            members: self.members,
+            fields: copy_fields(alloc, &self.fields)?,
+            places: places_of(alloc, &self.fields)?,
         })
     }
 

@@ -11,12 +11,13 @@ fn fault_of(alloc: Global, text: &[u8]) -> Option<SchemaError> {
     Schema::from_json(alloc, text).err()
 }
 
-// The canonical bytes of the schema of this text, as a string.
+// The canonical bytes of a copy of the schema of this text, as a string.
 fn canonical(alloc: Global, text: &[u8]) -> Result<String, Fail> {
     if u32::try_from(text.len()).is_err() {
         return Ok(String::new(alloc));
     }
-    let bytes = Schema::from_json(alloc, text)?.canonical_bytes(alloc)?;
+    let copy = Schema::from_json(alloc, text)?.copy(alloc)?;
+    let bytes = copy.canonical_bytes(alloc)?;
     Ok(String::from_utf8(bytes.items)?)
 }
 

@@ -1,4 +1,4 @@
 mod Checked
-mod FlagTables
+pub mod FlagTables
 mod LadderTable
 mod Rows

@@ -1,0 +1,12 @@
+pub mod Document
+pub mod DocumentLaws
+pub mod Either
+pub mod EitherLaws
+pub mod FieldLaws
+pub mod Fields
+pub mod KindLaws
+pub mod Kinds
+pub mod Reshown
+pub mod Runs
+pub mod Shapes
+pub mod Shown
