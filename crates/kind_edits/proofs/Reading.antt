@@ -73,7 +73,6 @@ minus_parsed : {E : Type 0} (ds : List ℕ) (r : Result ℤ E) → ParsesSigned 
     → result_ok r ≡ option_and_then negative (number_below (2 ^ 63 + 1) ds)
 minus_parsed ds r h numeral other =
     let digits = numeral_digits ds numeral in
-    let t : Bool = is_numeral ds && nat_lt (value_of ds) (2 ^ 63 + 1) in
     tested r _ (neg_ℤ (pos (value_of ds))) (is_numeral ds && nat_lt (value_of ds) (2 ^ 63 + 1)) (parse_signed_minus own w64 (45 ∷ ds) r h refl)
     (λ t. (digits.0, digits.1, grind (arith, nat_tests)))
     (λ p. let small : value_of ds ≤ 2 ^ 63 = p.2 in grind (arith, nat_tests))

@@ -1,11 +1,11 @@
 -- Sums and products of signed numbers, by their residues.
 use Rattle.std.proofs.Common.{◌≡◌, ℕ, zero, suc, ◌+◌, ◌-◌, ◌*◌, ◌/◌, ◌%◌, ◌<◌, true, false, nat_lt, ℤ, pos, negsuc, ◌+ℤ◌, ◌*ℤ◌, neg_ℤ, unsigned_abs, FitsSigned, ◌^◌, inl, inr, sym, ◌∙◌, ap, arith}
 use Rattle.std.specs.Int.{cast_signed, int_rem_euclid, w64}
-use Rattle.std.proofs.Math.Nat.{add-mod-mod, add-mul-mod_self_right, div-add-mod', mod-eq_of_lt, mod-lt, mul-mod_left}
+use Rattle.std.proofs.Math.Nat.{add-mod-mod, add-mul-mod_self_right, div-add-mod', mod-eq_of_lt, mod-add-mod, mod-lt, mul-mod_left}
 use Rattle.std.proofs.lemmas.Bool.{cases_lt}
 use Rattle.std.proofs.lemmas.Bool.Decides.{nat_tests}
 use Rattle.std.proofs.lemmas.Int.{to_z-of_z}
-use Rattle.std.proofs.lemmas.Nat.{mul-mod_second}
+use Rattle.std.proofs.lemmas.Nat.{mul-mod_first, mul-mod_second}
 use Rattle.number_crdts.specs.Number.{modulus_of}
 use Rattle.number_crdts.specs.NumberLaws.{residue-mod}
 
@@ -58,6 +58,46 @@ module _ (n : ℕ) (some : 0 < n) where
   pub rem-again : (z : ℤ) → rem z % n ≡ rem z
   rem-again (pos a) = mod-eq_of_lt (mod-lt a some)
   rem-again (negsuc a) = mod-eq_of_lt (omega arith)
+
+  -- the residue of a sum is that of the sum of the residues
+  rem_of_sum : (y z : ℤ) → rem (y +ℤ z) ≡ (rem y + rem z) % n
+  rem_of_sum (pos s) z = rem-add s z ∙ sym (mod-add-mod s n (rem z))
+  rem_of_sum (negsuc a) (pos b) =
+      let turned : b + (n - 1 - a % n) ≡ (n - 1 - a % n) + b = omega arith in
+      rem-add b (negsuc a) ∙ ap (λ x. x % n) turned ∙ sym (add-mod-mod (n - 1 - a % n) b n)
+  rem_of_sum (negsuc a) (negsuc b) =
+      let low : a % n < n = mod-lt a some in
+      let parts : a / n * n + a % n ≡ a = div-add-mod' a n in
+      let low' : b % n < n = mod-lt b some in
+      let parts' : b / n * n + b % n ≡ b = div-add-mod' b n in
+      let whole : ((n - 1 - a % n) + (n - 1 - b % n)) + suc (suc (a + b)) ≡ (a / n + 1 + (b / n + 1)) * n = omega arith in
+      sym (completes ((n - 1 - a % n) + (n - 1 - b % n)) (suc (a + b)) (a / n + 1 + (b / n + 1)) whole)
+
+  pub rem-sum : (y z : ℤ) → rem (pos (rem y) +ℤ z) ≡ rem (y +ℤ z)
+  rem-sum y z = rem-add (rem y) z ∙ sym (rem_of_sum y z)
+
+  -- n less the residue of a + 1, and a + 1, are a multiple
+  whole_of : (a : ℕ) → (n - 1 - a % n) + suc a ≡ (a / n + 1) * n
+  whole_of a = (let low : a % n < n = mod-lt a some in let parts : a / n * n + a % n ≡ a = div-add-mod' a n in omega arith)
+
+  -- and that of a product is that of the product of the residues
+  rem_of_product : (y z : ℤ) → rem (y *ℤ z) ≡ (rem y * rem z) % n
+  rem_of_product (pos s) z = rem-mul s z ∙ sym (mul-mod_first s (rem z) n)
+  rem_of_product (negsuc a) (pos b) =
+      let one = whole_of a in
+      let whole : (n - 1 - a % n) * b + suc a * b ≡ ((a / n + 1) * b) * n = grind (arith, ap (λ x. x * b) one) in
+      negated (suc a * b) ((n - 1 - a % n) * b) ((a / n + 1) * b) whole ∙ sym (mul-mod_second (n - 1 - a % n) b n)
+  rem_of_product (negsuc a) (negsuc b) = minus_twice (n - 1 - a % n) (n - 1 - b % n) (suc a) (suc b) (a / n + 1) (b / n + 1) (whole_of a) (whole_of b)
+    where
+      minus_twice : (x y a b k l : ℕ) → x + a ≡ k * n → y + b ≡ l * n → (a * b) % n ≡ (x * y) % n
+      minus_twice x y a b k l h j =
+          let first : x * y + x * b ≡ (x * l) * n = grind (arith, ap (λ z. x * z) j) in
+          let second : x * b + a * b ≡ (k * b) * n = grind (arith, ap (λ z. z * b) h) in
+          let both : a * b + (x * l) * n ≡ x * y + (k * b) * n = omega (arith, first, second) in
+          sym (add-mul-mod_self_right (a * b) (x * l) n) ∙ ap (λ z. z % n) both ∙ add-mul-mod_self_right (x * y) (k * b) n
+
+  pub rem-product : (y z : ℤ) → rem (pos (rem y) *ℤ z) ≡ rem (y *ℤ z)
+  rem-product y z = rem-mul (rem y) z ∙ sym (rem_of_product y z)
 
 -- a signed number of 64 bits is what its residue by 2^64 stands for
 pub signed_back : (z : ℤ) → FitsSigned w64 z → cast_signed w64 (unsigned_abs (int_rem_euclid z (pos (modulus_of 0)))) ≡ z

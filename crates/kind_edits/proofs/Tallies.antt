@@ -59,7 +59,6 @@ module _ {S O : Type 0} (m : Meaning S O) where
   pub shown_here : (es : List (KeyState S)) (k : List ℕ) (p : Stamp) (x : O)
       → get_member k (members m (apply_at m es k p x)) ≡ Some (m.show (m.apply (state_at m es k) p x))
   shown_here es k p x =
-      let v = m.apply (state_at m es k) p x in
       let there : has_key (put es k (m.apply (state_at m es k) p x)) k ≡ true = has-put es k (m.apply (state_at m es k) p x) in
       get-members (put es k (m.apply (state_at m es k) p x)) k
       ∙ cond-true (has_key (put es k (m.apply (state_at m es k) p x)) k) (Some (m.show (state_at m (put es k (m.apply (state_at m es k) p x)) k))) None there
@@ -69,7 +68,6 @@ module _ {S O : Type 0} (m : Meaning S O) where
   pub shown_other : (es : List (KeyState S)) (j k : List ℕ) (p : Stamp) (x : O) → k ≢ j
       → get_member k (members m (apply_at m es j p x)) ≡ get_member k (members m es)
   shown_other es j k p x differ =
-      let v : S = m.apply (state_at m es j) p x in
       get-members (put es j (m.apply (state_at m es j) p x)) k
       ∙ ap (λ t. if t then Some (m.show (state_at m (put es j (m.apply (state_at m es j) p x)) k)) else None) (has-put_other es j k (m.apply (state_at m es j) p x) differ)
       ∙ ap (λ s. if has_key es k then Some (m.show s) else None) (at-put_other m es j k (m.apply (state_at m es j) p x) differ)

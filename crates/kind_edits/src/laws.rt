@@ -51,11 +51,14 @@ pub fn spelled_numbers()
 {}
 
 /// The residue of a signed number is below the modulus. A number below the modulus is its own, and the modulus may be added to any
-/// number without a change of its residue. By 2^64, the residue of a signed number of 64 bits is shown as that number.
+/// number without a change of its residue. Sums and products may be taken of residues. By 2^64, the residue of a signed number of
+/// 64 bits is shown as that number: so a number that shows y shows the sum of y and z after `add z`, where that has 64 bits.
 pub fn residues_of_numbers()
     ensures below { (m : ℕ) (z : ℤ) → residue m z < modulus_of m }
     ensures own { (m n : ℕ) → n < modulus_of m → residue m (pos n) ≡ n }
     ensures round { (m : ℕ) (z : ℤ) → residue m (pos (modulus_of m) +ℤ z) ≡ residue m z }
+    ensures sum { (m : ℕ) (y z : ℤ) → residue m (pos (residue m y) +ℤ z) ≡ residue m (y +ℤ z) }
+    ensures product { (m : ℕ) (y z : ℤ) → residue m (pos (residue m y) *ℤ z) ≡ residue m (y *ℤ z) }
     ensures shown { (z : ℤ) → FitsSigned w64 z → shown_mod 0 (residue 0 z) ≡ of_integer z }
 {}
 

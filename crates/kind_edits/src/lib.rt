@@ -1,4 +1,8 @@
 //! What an edit of a field stands for: its words, a verb and the rest, become the operations of the field's kind, or are refused.
+//!
+//! The rest is all that follows the one space after the verb, and nothing where the verb ends the line. The operation of an edit of a
+//! number, a flag, a choice, a table, a register or a map does not depend on the field's state. So it is the same on a state and on
+//! that state settled, and it may stand at each stamp that is within the limits.
 #![tactic(auto)]
 
 mod fault;

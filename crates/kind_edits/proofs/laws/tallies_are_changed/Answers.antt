@@ -14,7 +14,6 @@ use Rattle.kind_edits.proofs.laws.tallies_are_changed.Goals as goal
 
 pub returns-clause-add : goal.returns-clause-add
 returns-clause-add c m es key z p word short fits =
-    let s = state_at (number_meaning m) es key in
     ok_and (tally_edit m (codes "add") (key ++ 32 ∷ signed_decimal z)) (at_key key (number_op Add (residue m z))) _
     (tally_read m (codes "add") key Add z refl word short fits)
     (shown_here (number_meaning m) es key p (number_op Add (residue m z))
