@@ -1,8 +1,9 @@
 //! Long things, there and back: a bench of the repository measures how long they take, with a greater number.
-ghost use Rattle.std.specs.Prelude.{◌≡◌, ◌≤◌, length};
+ghost use Rattle.std.specs.Prelude.{◌≡◌, ◌≤◌, length, IfOk};
+ghost use Rattle.std.specs.List.{All};
 ghost use Rattle.vector_clock.specs.Clock.{IsClock};
 ghost use Rattle.wire_core.specs.Calls.{rules_of};
-ghost use Rattle.wire_core.specs.declared.form.ClockForm.TheVariants.{Sparse};
+ghost use Rattle.format_rows.specs.Members.{one_member};
 
 use crdt_laws::{Bytes, NoMemory, Tower};
 use kind_codec::TextCoder;
@@ -19,8 +20,7 @@ const MANY: u16 = 50;
 const TIMES: u32 = 3;
 
 fn empty(alloc: Global) -> ByteOut
-    ensures members { result.n ≡ 1 }
-    ensures form { result.form ≡ Sparse }
+    ensures { rules_of result ≡ one_member }
 {
     ByteOut {
         bytes: Bytes {
@@ -120,6 +120,7 @@ fn take_ops<T: Tower, C: Coder<T>>(
     count: u16,
 ) -> Result<Vec<T::Op>, WireError>
     requires few { length bytes.now ≤ 4294967295 }
+    ensures { IfOk result (λ ops. All (λ x. (C.op_grammar coder.now tower.now).allows one_member x) ops.items) }
 {
     let mut from = ByteIn {
         bytes,
@@ -134,24 +135,23 @@ fn take_ops<T: Tower, C: Coder<T>>(
     Ok(ops)
 }
 
-// Writes the operation so many times.
-fn put_often<T: Tower, C: Coder<T>>(
+// Writes operations one after the other.
+fn put_ops<T: Tower, C: Coder<T>>(
     coder: &C,
     tower: &T,
-    op: &T::Op,
-    times: u32,
+    ops: &[T::Op],
     out: &mut ByteOut,
 ) -> Result<(), NoMemory>
-    requires { (C.op_grammar coder.now tower.now).allows (rules_of out.old) op.now }
+    requires { All (λ x. (C.op_grammar coder.now tower.now).allows (rules_of out.old) x) ops.now }
 {
-    for _ in 0..times {
+    for op in ops {
         coder.put_op(tower, op, out)?;
     }
     Ok(())
 }
 
-// Reads so many operations that stand one after the other, and writes each of them so many times.
-fn put_ops<T: Tower, C: Coder<T>>(
+// Reads so many operations that stand one after the other, and writes them so many times.
+fn take_and_put_ops<T: Tower, C: Coder<T>>(
     alloc: Global,
     coder: &C,
     tower: &T,
@@ -161,16 +161,10 @@ fn put_ops<T: Tower, C: Coder<T>>(
 ) -> Result<(), WireError>
     requires few { length bytes.now ≤ 4294967295 }
 {
-    let mut from = ByteIn {
-        bytes,
-        at: 0,
-        n: 1,
-        form: ClockForm::Sparse,
-    };
-    for _ in 0..count {
+    let ops = take_ops(alloc, coder, tower, bytes, count)?;
+    for _ in 0..times {
         let mut out = empty(alloc);
-        let op = coder.take_op(alloc, tower, &mut from)?;
-        put_often(coder, tower, &op, times, &mut out)?;
+        put_ops(coder, tower, ops.as_slice(), &mut out)?;
     }
     Ok(())
 }
@@ -250,7 +244,7 @@ fn takes_inserts(rt: HostRuntime) -> Result<(), Fail> {
 fn puts_inserts(rt: HostRuntime) -> Result<(), Fail> {
     let bytes = inserts(rt.alloc()).ok().ok_or("no memory")?;
     assert!(rt; bytes.items.len() <= 1_000_000);
-    let put = put_ops(
+    let put = take_and_put_ops(
         rt.alloc(),
         &TextCoder,
         &Text,

@@ -1,6 +1,0 @@
-use Rattle.std.proofs.Common.{◌≡◌}
-use Rattle.wire_core.specs.Calls.{rules_of}
-use Rattle.format_rows.proofs.long_tests.put_often.Given as goal
-
-abbrev pub invariant-loop : goal.invariant-loop
-invariant-loop g l = rules_of l.out ≡ rules_of l.fn.out
