@@ -1,5 +1,5 @@
 -- Things that are written in parts.
-use Rattle.std.proofs.Common.{◌≡◌, List, ap, ◌∙◌}
+use Rattle.std.proofs.Common.{◌≡◌, ℕ, List, ◌++◌, ap, ◌∙◌, append_assoc}
 use Rattle.vector_clock.specs.declared.clock.Clock.{Clock}
 use Rattle.list_crdt.specs.declared.text.Cell.{Cell}
 use Rattle.wire_core.specs.declared.byte_out.ByteOut.{ByteOut}
@@ -7,7 +7,10 @@ use Rattle.wire_core.specs.Calls.{rules_of, wrote}
 use Rattle.wire_core.specs.Entries.{wrote_more}
 use Rattle.register_crdts.specs.declared.several.Held.{Held}
 use Rattle.wire_core.specs.Small.{char_grammar, stamp_grammar, text_grammar}
+use Rattle.rich_text.specs.declared.marked.RichCell.{RichCell}
 use Rattle.kind_codec.specs.Registers.{held_grammar}
+use Rattle.kind_codec.specs.Marks.{marks_grammar}
+use Rattle.kind_codec.specs.Rich.{rich_cell_grammar}
 use Rattle.kind_codec.specs.Position.{position_grammar}
 use Rattle.kind_codec.specs.TextStates.{cell_grammar}
 
@@ -22,3 +25,15 @@ pub held_put : (d : Clock) (before : List Held) (mid one end : ByteOut) (h : Hel
     → end ≡ wrote one (text_grammar.spell (rules_of one) h.text) → end ≡ wrote mid ((held_grammar d before).spell (rules_of mid) h)
 held_put d before mid one end h first now =
     now ∙ ap (λ (m : ByteOut). wrote m (text_grammar.spell (rules_of m) h.text)) first ∙ wrote_more mid (stamp_grammar.spell (rules_of mid) h.stamp) (text_grammar.spell (rules_of mid) h.text)
+
+-- a position, its character and the marks
+pub rich_cell_put : (marks : ℕ) (d : Clock) (before : List RichCell) (mid one two end : ByteOut) (c : RichCell) → one ≡ wrote mid (position_grammar.spell (rules_of mid) c.at)
+    → two ≡ wrote one (char_grammar.spell (rules_of one) c.ch) → end ≡ wrote two ((marks_grammar marks).spell (rules_of two) c.marks)
+    → end ≡ wrote mid ((rich_cell_grammar marks d before).spell (rules_of mid) c)
+rich_cell_put marks d before mid one two end c first next now =
+    let r = rules_of mid in
+    let at = position_grammar.spell r c.at in
+    let ch = char_grammar.spell r c.ch in
+    let ms = (marks_grammar marks).spell r c.marks in
+    let both : two ≡ wrote mid (at ++ ch) = next ∙ ap (λ (m : ByteOut). wrote m (char_grammar.spell (rules_of m) c.ch)) first ∙ wrote_more mid at ch in
+    now ∙ ap (λ (m : ByteOut). wrote m ((marks_grammar marks).spell (rules_of m) c.marks)) both ∙ wrote_more mid (at ++ ch) ms ∙ ap (wrote mid) (append_assoc at ch ms)

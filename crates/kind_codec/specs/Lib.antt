@@ -6,3 +6,5 @@ pub mod Position
 pub mod Placed
 pub mod Text
 pub mod TextStates
+pub mod Marks
+pub mod Rich

@@ -2,14 +2,17 @@
 #![tactic(auto)]
 
 mod choice;
+mod marks;
 mod number;
 mod position;
 mod register;
+mod rich;
 mod table;
 mod text;
 
 pub use choice::{ChoiceCoder, LadderCoder};
 pub use number::{AddCoder, MulCoder};
 pub use register::{LatestCoder, SeveralCoder};
+pub use rich::{MarkOverCoder, MarkedTextCoder};
 pub use table::{FixedCoder, TableTowerCoder};
 pub use text::TextCoder;

@@ -1,5 +1,5 @@
 -- States that are written one after the other.
-use Rattle.std.proofs.Common.{◌≡◌, ℕ, ◌⊎◌, List, [], ◌∷◌, ◌++◌, length, refl, sym, ap, subst, ◌∙◌, inl, inr, arith}
+use Rattle.std.proofs.Common.{Bool, ◌≡◌, ℕ, ◌⊎◌, List, [], ◌∷◌, ◌++◌, length, refl, sym, ap, subst, ◌∙◌, inl, inr, arith}
 use Rattle.std.proofs.lemmas.List.{append-nil}
 use Rattle.vector_clock.specs.declared.clock.Clock.{Clock}
 use Rattle.crdt_laws.specs.Tower.{Meaning}
@@ -8,7 +8,10 @@ use Rattle.wire_core.specs.declared.byte_out.ByteOut.{ByteOut}
 use Rattle.wire_core.specs.Reading.{Grammar, Rules, spell_all}
 use Rattle.wire_core.specs.Calls.{rules_of, wrote}
 use Rattle.wire_core.specs.Entries.{wrote_more}
-use Rattle.wire_core.specs.Small.{map_key_grammar}
+use Rattle.vector_clock.specs.declared.stamp.Stamp.{Stamp}
+use Rattle.crdt_laws.specs.declared.small.Entry.{Entry}
+use Rattle.tower_codec.specs.Observed.{logged_grammar}
+use Rattle.wire_core.specs.Small.{stamp_grammar, map_key_grammar}
 use Rattle.map_crdt.specs.declared.keyed.KeyState.{KeyState}
 use Rattle.tower_codec.specs.Keyed.{pair_grammar}
 
@@ -50,3 +53,9 @@ pub pair_put : {S : Type 0} (part : Grammar S) (before : List (KeyState S)) (mid
     → end ≡ wrote one (part.spell (rules_of one) e.state) → end ≡ wrote mid ((pair_grammar part before).spell (rules_of mid) e)
 pair_put part before mid one end e first now =
     now ∙ ap (λ (m : ByteOut). wrote m (part.spell (rules_of m) e.state)) first ∙ wrote_more mid (map_key_grammar.spell (rules_of mid) e.key) (part.spell (rules_of mid) e.state)
+
+-- a stamp and its operation
+pub entry_put : {O : Type 0} (part : Grammar O) (may_stand : Stamp → O → Bool) (d : Clock) (before : List (Entry O)) (mid one end : ByteOut) (e : Entry O)
+    → one ≡ wrote mid (stamp_grammar.spell (rules_of mid) e.stamp) → end ≡ wrote one (part.spell (rules_of one) e.op) → end ≡ wrote mid ((logged_grammar part may_stand d before).spell (rules_of mid) e)
+entry_put part may_stand d before mid one end e first now =
+    now ∙ ap (λ (m : ByteOut). wrote m (part.spell (rules_of m) e.op)) first ∙ wrote_more mid (stamp_grammar.spell (rules_of mid) e.stamp) (part.spell (rules_of mid) e.op)

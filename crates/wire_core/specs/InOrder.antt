@@ -1,11 +1,11 @@
 -- Each way to make grammars of grammars keeps the order of faults.
-use Rattle.std.proofs.Common.{◌≡◌, ℕ, zero, suc, ◌≤◌, Bool, true, false, cond, ltb, List, [], ◌∷◌, ◌++◌, length, take, refl, sym, ap, subst, arith, eqb, ◌⊎◌}
+use Rattle.std.proofs.Common.{◌≡◌, ℕ, zero, suc, ◌≤◌, Bool, true, false, cond, ltb, List, [], ◌∷◌, ◌++◌, length, take, refl, sym, ap, subst, arith, eqb, ◌⊎◌, Option}
 use Rattle.std.specs.Str.{bytes_eq}
 use Rattle.std.proofs.lemmas.Bool.{ltb-false, le-ltb}
 use Rattle.std.proofs.lemmas.List.{length-append, take-append-le, drop-append-le}
 use Rattle.byteorder.specs.Endian.{big_number}
 use Rattle.byteorder.specs.Numbers.{big_from-append}
-use Rattle.wire_core.specs.Reading.{Rules, Input, behind, Fault, ShortAt, BadAt, Outcome, Got, Stop, ◌>>=◌, Grammar, number, bytes, exactly, moved, field, only, tested, sized, nothing, never, by_rules, read_each, repeated, counted, chain, made, tagged}
+use Rattle.wire_core.specs.Reading.{Rules, Input, behind, Fault, ShortAt, BadAt, Outcome, Got, Stop, ◌>>=◌, Grammar, number, bytes, exactly, moved, field, only, tested, sized, nothing, never, by_rules, read_each, repeated, counted, chain, made, by_part, tagged}
 use Rattle.wire_core.specs.Faults.{place, and_more, IsFrom, Stays, IsInOrder}
 
 module _ {A : Type 0} where
@@ -257,3 +257,10 @@ module _ {A : Type 0} where
 
 pub sized_in_order : (k : ℕ) → IsInOrder (sized k)
 sized_in_order k = made_in_order (λ p. p.1) (λ xs. (length xs, xs)) (chain (number k) bytes) (chain_in_order (number k) bytes (number_in_order k) bytes_in_order)
+
+module _ {A C : Type 0} where
+  pub by_part_in_order : (whole : A → C) (part : C → Option A) (g : Grammar A) → IsInOrder g → IsInOrder (by_part whole part g)
+  by_part_in_order whole part g h = record {
+    onward = λ i. from_bind (λ x j. Got (whole x) j) i.at (g.read i) (h.onward i) (λ x j. omega arith);
+    stays = λ i tail. stays_bind (λ x j. Got (whole x) j) (g.read i) (g.read (and_more i tail)) tail (h.stays i tail) (λ x j. omega arith) (λ x j. refl);
+  }

@@ -40,6 +40,22 @@ module _ {A K : Type 0} (key : A → K) (less : K → K → Bool) where
     follows_back to None x h = refl
     follows_back to (Some a) x h = to a x h
 
+module _ {A : Type 0} where
+  -- P holds of each thing behind those before it
+  abbrev pub EachBehind : (List A → A → Type 0) → List A → List A → Type 0
+  EachBehind P before [] = Unit {0}
+  EachBehind P before (x ∷ xs) = P before x × EachBehind P (before ++ x ∷ []) xs
+
+  pub behind_both : (P Q : List A → A → Type 0) (before xs : List A) → EachBehind P before xs → EachBehind Q before xs → EachBehind (λ b x. P b x × Q b x) before xs
+  behind_both P Q before [] h k = tt
+  behind_both P Q before (x ∷ xs) h k = ((h.0, k.0), behind_both P Q (before ++ x ∷ []) xs h.1 k.1)
+
+  -- where P allows each thing, so does the grammar
+  pub behind_allowed : (P : List A → A → Type 0) (g : List A → Grammar A) (r : Rules) → ((b : List A) (x : A) → P b x → (g b).allows r x)
+      → (before xs : List A) → EachBehind P before xs → allows_each g r before xs
+  behind_allowed P g r f before [] h = tt
+  behind_allowed P g r f before (x ∷ xs) h = (f before x h.0, behind_allowed P g r f (before ++ x ∷ []) xs h.1)
+
 pub last_more : {A : Type 0} (o : Option A) (before : List A) (x : A) → last_or o (before ++ x ∷ []) ≡ Some x
 last_more o [] x = refl
 last_more o (b ∷ before) x = last_more (Some b) before x
@@ -72,16 +88,20 @@ module _ {A : Type 0} (Less : A → A → Type 0) (order : IsTransitive Less) wh
         → (xs : List A) → allows_each g r [] xs → AreRising Less xs × AllByRecursion Q xs
     rising_taken h xs a = let all = all_taken h [] xs a in (all.1, all.2)
 
-    all_again : ((before : List A) (x : A) → Follows Less (last_or None before) x → Q x → (g before).allows r x)
-        → (before xs : List A) → AllByRecursion (Follows Less (last_or None before)) xs → AreRising Less xs → AllByRecursion Q xs → allows_each g r before xs
-    all_again h before [] f a q = tt
-    all_again h before (x ∷ xs) f a q =
-        (h before x f.0 q.0, all_again h (before ++ x ∷ []) xs (subst (λ (o : Option A). AllByRecursion (Follows Less o) xs) (sym (last_more None before x)) a.0) a.1 q.1)
+    behind_all : (before xs : List A) → AllByRecursion (Follows Less (last_or None before)) xs → AreRising Less xs → AllByRecursion Q xs
+        → EachBehind (λ b x. Follows Less (last_or None b) x × Q x) before xs
+    behind_all before [] f a q = tt
+    behind_all before (x ∷ xs) f a q =
+        ((f.0, q.0), behind_all (before ++ x ∷ []) xs (subst (λ (o : Option A). AllByRecursion (Follows Less o) xs) (sym (last_more None before x)) a.0) a.1 q.1)
+
+    -- of things that rise and keep Q each comes after the last one before it
+    pub rising_behind : (xs : List A) → AreRising Less xs → AllByRecursion Q xs → EachBehind (λ b x. Follows Less (last_or None b) x × Q x) [] xs
+    rising_behind xs a q = behind_all [] xs (first_of_all xs) a q
 
     -- and where such a thing is allowed, a list of things that rise and keep Q is
     pub rising_again : ((before : List A) (x : A) → Follows Less (last_or None before) x → Q x → (g before).allows r x)
         → (xs : List A) → AreRising Less xs → AllByRecursion Q xs → allows_each g r [] xs
-    rising_again h xs a q = all_again h [] xs (first_of_all xs) a q
+    rising_again h xs a q = behind_allowed (λ b x. Follows Less (last_or None b) x × Q x) g r (λ b x k. h b x k.0 k.1) [] xs (rising_behind xs a q)
 
 -- ---- lists that rise, in std's words
 

@@ -1,6 +1,6 @@
 -- What holds of the faults of states too, of which some are tested when several fields of theirs are read.
-use Rattle.std.proofs.Common.{◌≡◌, ℕ, zero, suc, ◌+◌, ◌-◌, ◌≤◌, ◌⊎◌, Bool, true, false, cond, eqb, List, [], ◌∷◌, ◌++◌, refl, sym, ap, subst, arith}
-use Rattle.wire_core.specs.Reading.{Rules, Input, ShortAt, BadAt, Outcome, Got, Stop, ◌>>=◌, Grammar, number, only, ending, read_each, read_all, for_all, listed, chain, made, tagged}
+use Rattle.std.proofs.Common.{◌≡◌, ℕ, zero, suc, ◌+◌, ◌-◌, ◌≤◌, ◌⊎◌, Bool, true, false, cond, eqb, List, [], ◌∷◌, ◌++◌, refl, sym, ap, subst, arith, Option}
+use Rattle.wire_core.specs.Reading.{Rules, Input, ShortAt, BadAt, Outcome, Got, Stop, ◌>>=◌, Grammar, number, only, ending, read_each, read_all, for_all, listed, chain, made, by_part, tagged}
 use Rattle.wire_core.specs.Faults.{and_more, IsFrom, Stays, IsInOrder}
 use Rattle.wire_core.specs.InOrder.{from_bind, from_later, number_in_order, pick_from}
 
@@ -175,3 +175,10 @@ module _ {A B C : Type 0} (left : A → C) (right : B → C) (split : C → A �
         onward = λ i. tag_from i.at ((number 1).read i) (tag.onward i);
         keeps = λ i tail. keeps_bind (arms i.at) ((number 1).read i) ((number 1).read (and_more i tail)) tail (tag.keeps i tail) (λ t j. arms_keep i.at t j tail);
       }
+
+module _ {A C : Type 0} where
+  pub by_part_steady : (whole : A → C) (part : C → Option A) (g : Grammar A) → IsSteady g → IsSteady (by_part whole part g)
+  by_part_steady whole part g h = record {
+    onward = λ i. from_bind (λ x j. Got (whole x) j) i.at (g.read i) (h.onward i) (λ x j. omega arith);
+    keeps = λ i tail. keeps_bind (λ x j. Got (whole x) j) (g.read i) (g.read (and_more i tail)) tail (h.keeps i tail) (λ x j. refl);
+  }
