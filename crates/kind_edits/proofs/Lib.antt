@@ -1,9 +1,13 @@
 pub mod Accepting
 pub mod Cutting
+pub mod Making
 pub mod Naming
 pub mod Numbers
+pub mod Prepared
 pub mod Reading
 pub mod Registers
 pub mod Residues
 pub mod Spellings
 pub mod Tallies
+pub mod Typing
+pub mod Wording
