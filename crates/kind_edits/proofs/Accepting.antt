@@ -18,7 +18,7 @@ use Rattle.kind_edits.specs.FlagEdit.{switch_edit}
 use Rattle.kind_edits.specs.KeyEdit.{tally_edit}
 use Rattle.kind_edits.specs.NameEdit.{name_edit}
 use Rattle.kind_edits.specs.NumberEdit.{number_edit, number_op, number_verb}
-use Rattle.kind_edits.specs.Rules.{demands, reads}
+use Rattle.kind_edits.specs.Rules.{demands, follows, reads}
 use Rattle.kind_edits.specs.Spelled.{residue, signed_of}
 use Rattle.kind_edits.specs.Words.{IsWord, first_word, only_word}
 use Rattle.kind_edits.specs.declared.fault.EditError.{EditError}
@@ -42,6 +42,14 @@ pub was_met : {Op : Type 0} (test : Bool) (fault : EditError) (next : Result Op 
     → (test ≡ true) × (next ≡ Ok op)
 was_met true fault next op h = (refl, h)
 was_met false fault next op h = absurd (cc)
+
+pub was_followed : {Op X : Type 0} (r : Result X EditError) (next : X → Result Op EditError) (op : Op) → follows r next ≡ Ok op
+    → (x : X) × (r ≡ Ok x) × (next x ≡ Ok op)
+was_followed (Err fault) next op h = absurd (cc)
+was_followed (Ok x) next op h = (x, refl, h)
+
+pub ok_same : {T : Type 0} (x y : T) → ◌≡◌ {A = Result T EditError} (Ok x) (Ok y) → x ≡ y
+ok_same x y e = cc
 
 pub same_text : (a b : List ℕ) → bytes_eq a b ≡ true → a ≡ b
 same_text a b h = (bytes_eq-Decides a b).0 h

@@ -1,6 +1,9 @@
 pub mod Accepting
+pub mod Built
+pub mod Changed
 pub mod Cutting
 pub mod Making
+pub mod Marked
 pub mod Naming
 pub mod Numbers
 pub mod Prepared

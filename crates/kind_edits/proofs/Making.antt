@@ -1,18 +1,18 @@
 -- The operations of an edit are valid, each at its stamp.
-use Rattle.std.proofs.Common.{◌≡◌, ℕ, ◌+◌, ◌-◌, ◌≤◌, ◌<◌, Bool, true, false, nat_le, inl, inr, List, [], ◌∷◌, length, map, Option, Some, Result, Ok, Err, IfSome, IfOk, refl, sym, subst, arith}
+use Rattle.std.proofs.Common.{◌≡◌, ℕ, ◌+◌, ◌-◌, ◌≤◌, ◌<◌, Bool, true, false, nat_le, inl, inr, List, [], ◌∷◌, length, map, Option, Some, Result, Ok, Err, IfSome, IfOk, refl, sym, ◌∙◌, ap, subst, arith}
 use Rattle.std.specs.Char.{IsScalar}
 use Rattle.std.proofs.Math.Utf8.{scalar}
 use Rattle.std.specs.Str.{all_scalars}
 use Rattle.std.proofs.lemmas.Bool.{and_parts, cases_eq}
 use Rattle.std.proofs.lemmas.Bool.Decides.{nat_tests}
-use Rattle.std.proofs.lemmas.List.{get_or-set_other, get_or-set_same}
-use Rattle.std.proofs.Math.ListN.{length-set}
+use Rattle.std.proofs.lemmas.List.{get_or-set_other, get_or-set_same, set-get_or, set-set}
+use Rattle.std.proofs.Math.ListN.{length-set, set}
 use Rattle.vector_clock.specs.declared.clock.Clock.{Clock}
 use Rattle.vector_clock.specs.declared.stamp.Stamp.{Stamp}
-use Rattle.vector_clock.specs.Clock.{count, max_seq, with_entry}
+use Rattle.vector_clock.specs.Clock.{IsClock, count, max_seq, with_entry}
 use Rattle.vector_clock.specs.Stamp.{IsAfter, IsStamp}
 use Rattle.crdt_laws.specs.Tower.{IsWithin, Meaning}
-use Rattle.forgetting_model.specs.Made.{AreValidWithin, stamp_then}
+use Rattle.forgetting_model.specs.Made.{AreValidWithin, stamp_after, stamp_then}
 use Rattle.list_crdt.specs.declared.position.Step.{Step}
 use Rattle.list_crdt.specs.declared.text.Cell.{Cell}
 use Rattle.list_crdt.specs.Between.{position_between}
@@ -52,6 +52,15 @@ after_before p h =
       };
       new = (let less : count (clock_before p) p.member < count p.clock p.member = omega (arith, own, counted) in grind (arith, nat_tests, less));
     }
+
+pub before_next : (k : Clock) (me : ℕ) → IsClock k → me < k.n → clock_before (stamp_after k me) ≡ k
+before_next k me h low =
+    let c = count k me in
+    let own : count (with_entry k me (c + 1)) me ≡ c + 1 = count-own k me (c + 1) (omega (arith, low, h.most, h.wide)) in
+    let back : count (with_entry k me (c + 1)) me - 1 ≡ c = omega (arith, own) in
+    let entries : set (set k.at me (c + 1)) me (count (with_entry k me (c + 1)) me - 1) ≡ k.at =
+    set-set k.at me (c + 1) (count (with_entry k me (c + 1)) me - 1) ∙ ap (set k.at me) back ∙ set-get_or k.at me 0 in
+    ap (λ (at : List ℕ). record { n = k.n; at = at }) entries
 
 -- ---- the stamps of an edit
 

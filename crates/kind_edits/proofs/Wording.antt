@@ -15,16 +15,13 @@ use Rattle.kind_edits.specs.Words.{IsWord, first_word, only_word}
 use Rattle.kind_edits.specs.declared.fault.EditError.{EditError}
 use Rattle.kind_edits.specs.declared.fault.EditError.TheVariants.{NoVerb, BadNumber, TextLong}
 use Rattle.kind_edits.specs.declared.forms.MarkWords.{MarkWords}
-use Rattle.kind_edits.proofs.Accepting.{named_at, was_met, was_read}
+use Rattle.kind_edits.proofs.Accepting.{named_at, ok_same, was_met, was_read}
 use Rattle.kind_edits.proofs.Cutting.{cut_first, only_from, only_is, was_cut}
 use Rattle.kind_edits.proofs.Naming.{found, is_it, one_place}
 use Rattle.kind_edits.proofs.Numbers.{number_word}
 use Rattle.kind_edits.proofs.Spellings.{below_printed, below_read}
 
 -- ---- counts
-
-ok_same : {T : Type 0} (x y : T) → ◌≡◌ {A = Result T EditError} (Ok x) (Ok y) → x ≡ y
-ok_same x y e = cc
 
 count_word : (n : ℕ) → n < 2 ^ 32 → IsWord (decimal n)
 count_word n h = number_word (pos n) (record { sfits = omega arith })

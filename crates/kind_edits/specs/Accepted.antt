@@ -1,7 +1,10 @@
 -- Which operation an addition or a multiplication of a signed number is, and what the words of an edit of a text are.
 use Rattle.std.specs.Prelude.{◌≡◌, ◌⊎◌, ◌<◌, ◌≤◌, ◌^◌, ℕ, ℤ, List, ◌∷◌, ◌++◌, length, slice_get, Some, codes}
 use Rattle.std.specs.Fmt.{decimal}
+use Rattle.list_crdt.specs.Position.{max_steps}
 use Rattle.register_crdts.specs.Text.{max_text}
+use Rattle.kind_edits.specs.declared.fault.EditError.{EditError}
+use Rattle.kind_edits.specs.declared.fault.EditError.TheVariants.{PositionFull}
 use Rattle.kind_edits.specs.declared.forms.MarkWords.{MarkWords}
 use Rattle.kind_edits.specs.Words.{IsWord}
 use Rattle.semidirect_product.specs.declared.stack.StackOp.TheVariants.{Low, High}
@@ -27,3 +30,9 @@ pub record AreMarkWords (names : List (List ℕ)) (words : List ℕ) (m : MarkWo
   pub word : IsWord name
   pub named : slice_get names m.mark ≡ Some name
   pub spelled : words ≡ decimal m.from ++ 32 ∷ (decimal m.to ++ 32 ∷ name)
+
+-- a position would have too many steps
+pub record IsFull (fault : EditError) : Type 0 where
+  pub steps : ℕ
+  pub more : max_steps < steps
+  pub is : fault ≡ PositionFull steps

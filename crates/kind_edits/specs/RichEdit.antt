@@ -1,9 +1,10 @@
 -- What an edit of rich text stands for.
-use Rattle.std.specs.Prelude.{ℕ, List, [], ◌∷◌, Bool, true, false, codes, length, nat_le, nat_lt, map, if◌then◌else◌, Result, Ok, Err}
+use Rattle.std.specs.Prelude.{ℕ, List, [], ◌∷◌, Bool, true, false, codes, length, nat_le, nat_lt, map, if◌then◌else◌, IsTrue, Result, Ok, Err}
+use Rattle.std.specs.List.{Contains}
 use Rattle.std.specs.Str.{bytes_eq, chars}
 use Rattle.vector_clock.specs.declared.stamp.Stamp.{Stamp}
 use Rattle.vector_clock.specs.Clock.{count}
-use Rattle.vector_clock.specs.Stamp.{key_of}
+use Rattle.vector_clock.specs.Stamp.{is_less, key_of}
 use Rattle.list_crdt.specs.declared.text.Cell.{Cell}
 use Rattle.list_crdt.specs.Cells.{place, place_before}
 use Rattle.semidirect_product.specs.declared.stack.StackOp.{StackOp}
@@ -57,3 +58,12 @@ rich_edit p names s verb rest =
     else if bytes_eq verb (codes "mark") then follows (mark_words names rest) (λ words. rich_mark p s words true)
     else if bytes_eq verb (codes "unmark") then follows (mark_words names rest) (λ words. rich_mark p s words false)
     else Err NoVerb
+
+-- the verb that puts a mark on, and the one that takes it off
+abbrev pub mark_verb : Bool → List ℕ
+mark_verb true = codes "mark"
+mark_verb false = codes "unmark"
+
+-- each entry of a mark in the text has a lesser key than the stamp
+pub record AreLesser (s : List RichCell) (p : Stamp) : Type 0 where
+  pub each : (c : RichCell) (e : MarkEntry) → Contains s c → Contains c.marks e → IsTrue (is_less e.key (key_of p))

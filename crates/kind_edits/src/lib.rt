@@ -20,6 +20,7 @@ mod plain;
 mod rich;
 mod spelled;
 mod text;
+mod text_laws;
 mod words;
 
 pub use fault::EditError;
@@ -37,6 +38,10 @@ pub use plain::prepare_text;
 pub use rich::prepare_rich;
 pub use spelled::{count_of, residue, signed_of};
 pub use text::prepare_register;
+pub use text_laws::{
+    clocks_before_operations, edits_of_settled_texts, marks_are_put, rich_texts_are_edited,
+    texts_are_edited, words_of_text_edits,
+};
 pub use words::{first_word, only_word};
 
 #[cfg(test)]

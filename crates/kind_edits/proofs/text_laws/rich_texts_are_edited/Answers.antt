@@ -1,0 +1,10 @@
+use Rattle.kind_edits.proofs.Marked.{inserts_marked, inserts_shown, rich_full, rich_removed}
+use Rattle.kind_edits.proofs.text_laws.rich_texts_are_edited.Goals as goal
+
+pub returns : goal.returns
+returns c = record {
+  insert = inserts_shown;
+  marks = inserts_marked;
+  room = rich_full;
+  delete = rich_removed;
+}
