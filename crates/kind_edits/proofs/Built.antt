@@ -1,8 +1,8 @@
 -- What a text is once letters are put into it.
-use Rattle.std.proofs.Common.{◌≡◌, ℕ, zero, suc, ◌+◌, ◌≤◌, ◌<◌, Bool, true, nat_le, List, [], ◌∷◌, ◌++◌, length, take, drop, map, Option, None, Some, Result, Ok, Err, refl, sym, ◌∙◌, ap, ap₂, subst, arith, append_assoc}
+use Rattle.std.proofs.Common.{◌≡◌, ℕ, zero, suc, ◌+◌, ◌≤◌, nat_le, List, [], ◌∷◌, ◌++◌, length, take, drop, map, Option, Some, Ok, refl, sym, ◌∙◌, ap, ap₂, subst, arith, append_assoc}
 use Rattle.std.specs.Prelude.{insert}
 use Rattle.std.proofs.lemmas.Bool.Decides.{nat_tests}
-use Rattle.std.proofs.lemmas.List.{drop-map, length-append, map-append, take-append-drop, take-map}
+use Rattle.std.proofs.lemmas.List.{drop-map, map-append, take-append-drop, take-map}
 use Rattle.std.proofs.lemmas.List.Edits.{length-insert}
 use Rattle.list_crdt.specs.declared.position.Step.{Step}
 use Rattle.list_crdt.specs.declared.text.Cell.{Cell}
@@ -12,10 +12,9 @@ use Rattle.list_crdt.specs.Cells.{IsRising, place, place_before, with_at}
 use Rattle.list_crdt.specs.Position.{IsPosition, max_steps}
 use Rattle.list_crdt.proofs.Neighbours.{inserted_between}
 use Rattle.list_crdt.proofs.Next.{is_between, made_position}
-use Rattle.kind_edits.specs.declared.fault.EditError.{EditError}
 use Rattle.kind_edits.specs.declared.fault.EditError.TheVariants.{PositionFull}
 use Rattle.kind_edits.specs.Letters.{letters_between}
-use Rattle.kind_edits.specs.Rules.{demands, follows}
+use Rattle.kind_edits.specs.Rules.{follows}
 use Rattle.kind_edits.specs.Shown.{letters, spliced}
 use Rattle.kind_edits.proofs.Accepting.{ok_same, was_followed, was_met}
 use Rattle.kind_edits.proofs.Typing.{letter}

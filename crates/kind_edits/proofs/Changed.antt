@@ -1,15 +1,13 @@
 -- What texts are after their edits.
-use Rattle.std.proofs.Common.{◌≡◌, ◌≢◌, ℕ, zero, suc, ◌+◌, ◌-◌, ◌≤◌, ◌<◌, ◌^◌, Bool, true, false, nat_le, nat_lt, List, [], ◌∷◌, ◌++◌, length, get_or, take, drop, map, codes, slice_get, Option, None, Some, Result, Ok, Err, IfOk, IfErr, IsOkAnd, IsTrue, refl, sym, ◌∙◌, ap, ap₂, subst, arith}
-use Rattle.std.specs.Prelude.{encode_utf8_all, remove, replicate}
+use Rattle.std.proofs.Common.{◌≡◌, ℕ, suc, ◌+◌, ◌≤◌, ◌<◌, ◌^◌, Bool, true, false, nat_le, List, [], ◌∷◌, ◌++◌, length, get_or, take, drop, map, codes, Option, Some, Result, Ok, Err, IfOk, IfErr, IsOkAnd, refl, sym, ◌∙◌, ap, ap₂, subst, arith}
+use Rattle.std.specs.Prelude.{encode_utf8_all, remove}
 use Rattle.std.specs.Fmt.{decimal}
-use Rattle.std.specs.List.{All, AllPairs, Contains, list_any}
 use Rattle.std.specs.Str.{chars}
 use Rattle.std.proofs.lemmas.Bool.Decides.{nat_tests}
-use Rattle.std.proofs.lemmas.List.{drop-map, length-map, map-append, take-map}
+use Rattle.std.proofs.lemmas.List.{drop-map, map-append, take-map}
 use Rattle.serde_json.specs.Data.{Data, string}
 use Rattle.vector_clock.specs.declared.stamp.Stamp.{Stamp}
 use Rattle.vector_clock.specs.Clock.{count}
-use Rattle.vector_clock.specs.Stamp.{is_less, key_of}
 use Rattle.crdt_laws.specs.Present.{apply_all}
 use Rattle.forgetting_model.specs.Made.{entries_from, stamp_then}
 use Rattle.list_crdt.specs.declared.position.Step.{Step}
@@ -17,38 +15,23 @@ use Rattle.list_crdt.specs.declared.text.Cell.{Cell}
 use Rattle.list_crdt.specs.declared.text.TextOp.{TextOp}
 use Rattle.list_crdt.specs.declared.text.TextOp.TheVariants as plain_op
 use Rattle.list_crdt.specs.Between.{position_between}
-use Rattle.list_crdt.specs.Cells as cells
 use Rattle.list_crdt.specs.Position.{max_steps}
 use Rattle.list_crdt.specs.Text as plain
 use Rattle.list_crdt.specs.Text.{IsText, text_meaning}
 use Rattle.list_crdt.proofs.Neighbours.{place_within, removed_at}
 use Rattle.register_crdts.specs.Text.{max_text}
-use Rattle.semidirect_product.specs.declared.stack.StackOp.{StackOp}
-use Rattle.semidirect_product.specs.declared.stack.StackOp.TheVariants.{Low, High}
-use Rattle.rich_text.specs.declared.marked.RichCell.{RichCell}
-use Rattle.rich_text.specs.declared.marked.RichOp.{RichOp}
-use Rattle.rich_text.specs.declared.marked.RichOp.TheVariants.{Insert, Delete}
-use Rattle.rich_text.specs.declared.marks.MarkEntry.{MarkEntry}
-use Rattle.rich_text.specs.declared.over.MarkRange.{MarkRange}
-use Rattle.rich_text.specs.ByIndex.{IsLatest, IsRangeOver, characters, is_on, marks_before, shows}
-use Rattle.rich_text.specs.Marked.{IsRichText, at, cell}
-use Rattle.rich_text.specs.Over.{marked, rich_meaning}
-use Rattle.rich_text.proofs.Runs.{others_show, same_characters, shows_run}
-use Rattle.kind_edits.specs.Accepted.{AreMarkWords, IsFull, IsInsertWords}
+use Rattle.kind_edits.specs.Accepted.{IsFull}
 use Rattle.kind_edits.specs.declared.fault.EditError.{EditError}
 use Rattle.kind_edits.specs.declared.fault.EditError.TheVariants.{IndexOut, PositionFull}
-use Rattle.kind_edits.specs.declared.forms.MarkWords.{MarkWords}
-use Rattle.kind_edits.specs.Forms.{delete_words, insert_words, mark_words}
+use Rattle.kind_edits.specs.Forms.{delete_words, insert_words}
 use Rattle.kind_edits.specs.Letters.{letters_between}
 use Rattle.kind_edits.specs.PlainEdit.{insert_of, text_delete, text_edit, text_insert}
-use Rattle.kind_edits.specs.RichEdit.{marked_insert, rich_delete, rich_edit, rich_insert, rich_mark}
 use Rattle.kind_edits.specs.Rules.{demands, follows, reads}
-use Rattle.kind_edits.specs.Shown.{letters, rich_letters, shown_before, spliced}
+use Rattle.kind_edits.specs.Shown.{letters, spliced}
 use Rattle.kind_edits.proofs.Built.{built, built_is, letters_are, map-spliced}
-use Rattle.kind_edits.proofs.Prepared.{follows_if, holds_of, rich_order, text_order}
-use Rattle.kind_edits.proofs.Tallies.{demands_if, reads_if}
+use Rattle.kind_edits.proofs.Prepared.{follows_if, text_order}
 use Rattle.kind_edits.proofs.Typing.{letter}
-use Rattle.kind_edits.proofs.Wording.{delete_reads, insert_reads, mark_read, mark_reads}
+use Rattle.kind_edits.proofs.Wording.{delete_reads, insert_reads}
 
 -- ---- texts
 

@@ -1,5 +1,6 @@
 pub mod Accepting
 pub mod Built
+pub mod ByIndex
 pub mod Changed
 pub mod Cutting
 pub mod Making
@@ -7,6 +8,7 @@ pub mod Marked
 pub mod Naming
 pub mod Numbers
 pub mod Prepared
+pub mod Ranges
 pub mod Reading
 pub mod Registers
 pub mod Residues

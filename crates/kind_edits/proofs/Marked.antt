@@ -1,5 +1,5 @@
 -- What rich texts are after their edits.
-use Rattle.std.proofs.Common.{◌≡◌, ◌≢◌, ℕ, zero, suc, ◌+◌, ◌-◌, ◌≤◌, ◌<◌, ◌^◌, ◌==◌, ◌&&◌, Bool, true, false, nat_le, nat_lt, List, [], ◌∷◌, ◌++◌, length, get_or, take, drop, map, codes, Option, None, Some, Result, Ok, Err, IfOk, IfErr, IsOkAnd, IsTrue, refl, sym, ◌∙◌, ap, subst, arith}
+use Rattle.std.proofs.Common.{◌≡◌, ◌≢◌, ℕ, zero, suc, ◌-◌, ◌≤◌, ◌<◌, ◌^◌, ◌==◌, ◌&&◌, Bool, true, false, nat_le, nat_lt, List, [], ◌∷◌, ◌++◌, length, get_or, take, drop, map, codes, Some, Result, Ok, IfOk, IfErr, IsOkAnd, refl, sym, ◌∙◌, ap, subst, arith}
 use Rattle.std.specs.Prelude.{IsOk, remove, replicate}
 use Rattle.std.specs.Fmt.{decimal}
 use Rattle.std.specs.List.{AllPairs, list_any}
@@ -23,7 +23,7 @@ use Rattle.rich_text.specs.declared.marked.RichOp.{RichOp}
 use Rattle.rich_text.specs.declared.marked.RichOp.TheVariants.{Insert, Delete}
 use Rattle.rich_text.specs.declared.marks.MarkEntry.{MarkEntry}
 use Rattle.rich_text.specs.declared.over.MarkRange.{MarkRange}
-use Rattle.rich_text.specs.ByIndex.{IsLatest, IsRangeOver, characters, is_on, marks_before, shows}
+use Rattle.rich_text.specs.ByIndex.{IsRangeOver, characters, is_on, marks_before, shows}
 use Rattle.rich_text.specs.Marked.{IsRichText, at, cell, rich_edited}
 use Rattle.rich_text.specs.Over.{marked, rich_meaning}
 use Rattle.rich_text.proofs.Runs.{others_show, same_characters, shows_run}
@@ -39,7 +39,7 @@ use Rattle.kind_edits.specs.Shown.{letters, rich_letters, shown_before, spliced}
 use Rattle.kind_edits.proofs.Built.{built, built_is, letters_are, map-spliced}
 use Rattle.kind_edits.proofs.Changed.{demand_met, errs_if, follow_on, if_holds, letters_full, read_there, text_data}
 use Rattle.kind_edits.proofs.Prepared.{follows_if, rich_order}
-use Rattle.kind_edits.proofs.Tallies.{demands_if, reads_if}
+use Rattle.kind_edits.proofs.Tallies.{reads_if}
 use Rattle.kind_edits.proofs.Wording.{delete_reads, insert_reads, mark_reads}
 
 abbrev AnyOp : Type 0
@@ -113,7 +113,7 @@ before_shows mark [] (suc (suc i)) = refl
 before_shows mark (c ∷ s) (suc zero) = refl
 before_shows mark (c ∷ s) (suc (suc i)) = before_shows mark s (suc i)
 
-insert_edit : (p : Stamp) (names : List (List ℕ)) (s : List RichCell) (i : ℕ) (t : List ℕ) → i < 2 ^ 32 → 1 ≤ length t → length t ≤ max_text
+pub insert_edit : (p : Stamp) (names : List (List ℕ)) (s : List RichCell) (i : ℕ) (t : List ℕ) → i < 2 ^ 32 → 1 ≤ length t → length t ≤ max_text
     → rich_edit p names s (codes "insert") (decimal i ++ 32 ∷ t) ≡ rich_insert p s i (chars t)
 insert_edit p names s i t low some most =
     follow_on (insert_words (decimal i ++ 32 ∷ t)) (i, t) (λ parts. rich_insert p s parts.0 (chars parts.1))

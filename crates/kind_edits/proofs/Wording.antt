@@ -1,5 +1,5 @@
 -- What the words of an edit of a text are.
-use Rattle.std.proofs.Common.{◌≡◌, ◌≢◌, ℕ, ◌+◌, ◌<◌, ◌≤◌, ◌^◌, ◌==◌, true, not, nat_le, List, [], ◌∷◌, ◌++◌, length, get_or, Some, Result, Ok, ◌⊎◌, inl, inr, pos, refl, ◌∙◌, ap, ap₂, subst, arith}
+use Rattle.std.proofs.Common.{◌≡◌, ◌≢◌, ℕ, ◌+◌, ◌<◌, ◌≤◌, ◌^◌, ◌==◌, true, not, nat_le, List, [], ◌∷◌, ◌++◌, length, get_or, Some, Ok, ◌⊎◌, inl, inr, pos, refl, ◌∙◌, ap, ap₂, subst, arith}
 use Rattle.std.specs.Fmt.{decimal}
 use Rattle.std.specs.List.{AllPairs, position}
 use Rattle.std.specs.Str.{IsUtf8, bytes_eq}
@@ -12,7 +12,6 @@ use Rattle.kind_edits.specs.Accepted.{AreMarkWords, IsInsertWords}
 use Rattle.kind_edits.specs.Forms.{delete_words, insert_words, mark_words}
 use Rattle.kind_edits.specs.Spelled.{count_of}
 use Rattle.kind_edits.specs.Words.{IsWord, first_word, only_word}
-use Rattle.kind_edits.specs.declared.fault.EditError.{EditError}
 use Rattle.kind_edits.specs.declared.fault.EditError.TheVariants.{NoVerb, BadNumber, TextLong}
 use Rattle.kind_edits.specs.declared.forms.MarkWords.{MarkWords}
 use Rattle.kind_edits.proofs.Accepting.{named_at, ok_same, was_met, was_read}

@@ -1,10 +1,11 @@
 -- What an edit of rich text stands for.
-use Rattle.std.specs.Prelude.{ℕ, List, [], ◌∷◌, Bool, true, false, codes, length, nat_le, nat_lt, map, if◌then◌else◌, IsTrue, Result, Ok, Err}
+use Rattle.std.specs.Prelude.{ℕ, suc, List, [], ◌∷◌, Bool, true, false, codes, length, nat_le, nat_lt, map, if◌then◌else◌, IsTrue, Result, Ok, Err}
 use Rattle.std.specs.List.{Contains}
 use Rattle.std.specs.Str.{bytes_eq, chars}
 use Rattle.vector_clock.specs.declared.stamp.Stamp.{Stamp}
 use Rattle.vector_clock.specs.Clock.{count}
 use Rattle.vector_clock.specs.Stamp.{is_less, key_of}
+use Rattle.forgetting_model.specs.Made.{stamp_then}
 use Rattle.list_crdt.specs.declared.text.Cell.{Cell}
 use Rattle.list_crdt.specs.Cells.{place, place_before}
 use Rattle.semidirect_product.specs.declared.stack.StackOp.{StackOp}
@@ -14,8 +15,8 @@ use Rattle.rich_text.specs.declared.marked.RichOp.{RichOp}
 use Rattle.rich_text.specs.declared.marked.RichOp.TheVariants.{Insert, Delete}
 use Rattle.rich_text.specs.declared.marks.MarkEntry.{MarkEntry}
 use Rattle.rich_text.specs.declared.over.MarkRange.{MarkRange}
-use Rattle.rich_text.specs.ByIndex.{marks_before}
-use Rattle.rich_text.specs.Marked.{at}
+use Rattle.rich_text.specs.ByIndex.{insert_at, marks_before}
+use Rattle.rich_text.specs.Marked.{at, rich_edited}
 use Rattle.kind_edits.specs.declared.fault.EditError.{EditError}
 use Rattle.kind_edits.specs.declared.fault.EditError.TheVariants.{NoVerb, IndexOut}
 use Rattle.kind_edits.specs.declared.forms.MarkWords.{MarkWords}
@@ -67,3 +68,11 @@ mark_verb false = codes "unmark"
 -- each entry of a mark in the text has a lesser key than the stamp
 pub record AreLesser (s : List RichCell) (p : Stamp) : Type 0 where
   pub each : (c : RichCell) (e : MarkEntry) → Contains s c → Contains c.marks e → IsTrue (is_less e.key (key_of p))
+
+-- The inserts of letters one by one, each at the next index of the text as those before it have left it. So each takes the marks of
+-- the character before it there.
+abbrev pub inserts_at : Stamp → List RichCell → ℕ → List ℕ → List RichOp
+inserts_at p s i [] = []
+inserts_at p s i (ch ∷ chs) =
+    let op = insert_at p s i ch in
+    op ∷ inserts_at (stamp_then p) (rich_edited s op) (suc i) chs

@@ -39,10 +39,12 @@ pub use rich::prepare_rich;
 pub use spelled::{count_of, residue, signed_of};
 pub use text::prepare_register;
 pub use text_laws::{
-    clocks_before_operations, edits_of_settled_texts, marks_are_put, rich_texts_are_edited,
-    texts_are_edited, words_of_text_edits,
+    clocks_before_operations, edits_keep_entries_of_ranges, edits_of_settled_texts, marks_are_put,
+    rich_texts_are_edited, texts_are_edited, words_of_text_edits,
 };
 pub use words::{first_word, only_word};
 
 #[cfg(test)]
 mod tests;
+#[cfg(test)]
+mod text_tests;

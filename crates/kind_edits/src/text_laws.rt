@@ -1,28 +1,35 @@
 //! What the definitions of edits of texts mean, as `laws` for the other kinds: what is shown after the operations of an edit are applied,
 //! each at its stamp, to the state from which the edit was made.
-ghost use Rattle.std.specs.Prelude.{◌≡◌, ◌≢◌, ◌^◌, ◌<◌, ◌≤◌, ◌↔◌, ◌-◌, ◌∷◌, ◌++◌, ℕ, Bool, List, Some, Ok, length, codes, take, drop, remove, replicate, slice_get, IfOk, IfErr, IsOk, IsOkAnd};
+ghost use Rattle.std.specs.Prelude.{◌≡◌, ◌≢◌, ◌^◌, ◌<◌, ◌≤◌, ◌↔◌, ◌-◌, ◌∷◌, ◌++◌, ℕ, Bool, List, Some, Ok, length, codes, take, drop, map, remove, replicate, slice_get, IfOk, IfErr, IsOk, IsOkAnd};
 ghost use Rattle.std.specs.Prelude.{encode_utf8_all};
 ghost use Rattle.std.specs.Fmt.{decimal};
-ghost use Rattle.std.specs.List.{AllPairs};
+ghost use Rattle.std.specs.List.{All, AllPairs};
 ghost use Rattle.std.specs.Str.{chars};
 ghost use Rattle.serde_json.specs.Data.{string};
 ghost use Rattle.vector_clock.specs.declared.clock.Clock.{Clock};
 ghost use Rattle.vector_clock.specs.declared.stamp.Stamp.{Stamp};
 ghost use Rattle.vector_clock.specs.Clock.{IsClock};
 ghost use Rattle.vector_clock.specs.Stamp.{IsAfter, IsStamp};
-ghost use Rattle.crdt_laws.specs.Present.{apply_all};
+ghost use Rattle.crdt_laws.specs.Present.{apply_all, document};
+ghost use Rattle.crdt_laws.specs.Sets.{AreApart, AreIssued, IsClosed, IsHonest, canonical};
+ghost use Rattle.crdt_laws.specs.declared.small.Entry.{Entry};
 ghost use Rattle.forgetting_model.specs.Made.{entries_from, stamp_after};
 ghost use Rattle.list_crdt.specs.declared.text.Cell.{Cell};
 ghost use Rattle.list_crdt.specs.Text.{IsText, text_meaning};
 ghost use Rattle.register_crdts.specs.Text.{max_text};
+ghost use Rattle.semidirect_product.specs.declared.stack.StackOp.{StackOp};
+ghost use Rattle.semidirect_product.specs.declared.stack.StackOp.TheVariants.{Low};
 ghost use Rattle.rich_text.specs.declared.marked.RichCell.{RichCell};
+ghost use Rattle.rich_text.specs.declared.marked.RichOp.{RichOp};
+ghost use Rattle.rich_text.specs.declared.over.MarkRange.{MarkRange};
 ghost use Rattle.rich_text.specs.ByIndex.{characters, shows};
 ghost use Rattle.rich_text.specs.Marked.{IsRichText};
 ghost use Rattle.rich_text.specs.Over.{rich_meaning};
+ghost use Rattle.rich_text.specs.Shown.{AreFromRanges};
 ghost use Rattle.kind_edits.specs.Accepted.{AreMarkWords, IsFull, IsInsertWords};
 ghost use Rattle.kind_edits.specs.Forms.{delete_words, insert_words, mark_words};
 ghost use Rattle.kind_edits.specs.PlainEdit.{text_edit};
-ghost use Rattle.kind_edits.specs.RichEdit.{AreLesser, mark_verb, rich_edit};
+ghost use Rattle.kind_edits.specs.RichEdit.{AreLesser, inserts_at, mark_verb, rich_edit};
 ghost use Rattle.kind_edits.specs.Shown.{letters, rich_letters, shown_before, spliced};
 ghost use Rattle.kind_edits.specs.Stamps.{clock_before};
 ghost use Rattle.kind_edits.specs.Words.{IsWord};
@@ -58,7 +65,7 @@ pub fn texts_are_edited()
 {}
 
 /// The same of rich texts. What is put in shows the marks of the character before it, none at the start, and all other characters show
-/// what they showed.
+/// what they showed. Each character is inserted at the next index of the text as those before it have left it.
 pub fn rich_texts_are_edited()
     ensures insert { (number n : ℕ) (p : Stamp) (names : List (List ℕ)) (s : List RichCell) (i : ℕ) (t : List ℕ) → IsRichText number n s → i < 2 ^ 32 → 1 ≤ length t → length t ≤ max_text
         → IfOk (rich_edit p names s (codes "insert") (decimal i ++ 32 ∷ t))
@@ -66,6 +73,8 @@ pub fn rich_texts_are_edited()
     ensures marks { (number n mark : ℕ) (p : Stamp) (names : List (List ℕ)) (s : List RichCell) (i : ℕ) (t : List ℕ) → IsRichText number n s → i < 2 ^ 32 → 1 ≤ length t → length t ≤ max_text
         → IfOk (rich_edit p names s (codes "insert") (decimal i ++ 32 ∷ t))
         (λ ops. shows mark (apply_all (rich_meaning number) s (entries_from p ops)) ≡ spliced (shows mark s) i (replicate (length (chars t)) (shown_before mark s i))) }
+    ensures by_index { (number n : ℕ) (p : Stamp) (names : List (List ℕ)) (s : List RichCell) (i : ℕ) (t : List ℕ) → IsStamp p → IsRichText number n s → i < 2 ^ 32 → 1 ≤ length t → length t ≤ max_text
+        → IfOk (rich_edit p names s (codes "insert") (decimal i ++ 32 ∷ t)) (λ ops. ops ≡ map Low (inserts_at p s i (chars t))) }
     ensures room { (p : Stamp) (names : List (List ℕ)) (s : List RichCell) (i : ℕ) (t : List ℕ) → i < 2 ^ 32 → i ≤ length s → 1 ≤ length t → length t ≤ max_text
         → IfErr (rich_edit p names s (codes "insert") (decimal i ++ 32 ∷ t)) IsFull }
     ensures delete { (number n : ℕ) (p : Stamp) (names : List (List ℕ)) (s : List RichCell) (i : ℕ) → IsRichText number n s → i < 2 ^ 32 → i < length s
@@ -88,6 +97,16 @@ pub fn marks_are_put()
         → IfOk (rich_edit p names s (mark_verb on) words) (λ ops. shows mark (apply_all (rich_meaning number) s (entries_from p ops)) ≡ shows mark s) }
     ensures characters { (number : ℕ) (p : Stamp) (names : List (List ℕ)) (s : List RichCell) (words : List ℕ) (on : Bool)
         → IfOk (rich_edit p names s (mark_verb on) words) (λ ops. characters (apply_all (rich_meaning number) s (entries_from p ops)) ≡ characters s) }
+{}
+
+/// Where the entries of a set's inserts are those of its ranges, the document of the set has only entries of lesser keys than the next
+/// edit of a member that knows the whole set. And the operations of edits of that document keep this of the set. So where nothing but
+/// such edits is made, `mark` and `unmark` show at once.
+pub fn edits_keep_entries_of_ranges()
+    ensures lesser { (number n : ℕ) (xs : List (Entry (StackOp RichOp MarkRange))) (p : Stamp) → AreIssued (rich_meaning number) n xs → AreApart xs → IsHonest xs → IsClosed xs → AreFromRanges xs
+        → All (λ e. IsAfter e.stamp.clock p) xs → AreLesser (document (rich_meaning number) (canonical xs)) p }
+    ensures kept { (number n : ℕ) (xs : List (Entry (StackOp RichOp MarkRange))) (p : Stamp) (names : List (List ℕ)) (verb rest : List ℕ) → AreIssued (rich_meaning number) n xs → AreApart xs → IsHonest xs → IsClosed xs → AreFromRanges xs
+        → IfOk (rich_edit p names (document (rich_meaning number) (canonical xs)) verb rest) (λ ops. AreFromRanges (entries_from p ops ++ xs)) }
 {}
 
 /// An edit is the same on a text and on that text settled.
