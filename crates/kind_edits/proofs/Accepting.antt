@@ -18,7 +18,7 @@ use Rattle.kind_edits.specs.FlagEdit.{switch_edit}
 use Rattle.kind_edits.specs.KeyEdit.{tally_edit}
 use Rattle.kind_edits.specs.NameEdit.{name_edit}
 use Rattle.kind_edits.specs.NumberEdit.{number_edit, number_op, number_verb}
-use Rattle.kind_edits.specs.Rules.{demands, reads}
+use Rattle.kind_edits.specs.Rules.{demands, follows, reads}
 use Rattle.kind_edits.specs.Spelled.{residue, signed_of}
 use Rattle.kind_edits.specs.Words.{IsWord, first_word, only_word}
 use Rattle.kind_edits.specs.declared.fault.EditError.{EditError}
@@ -33,17 +33,25 @@ use Rattle.kind_edits.proofs.Tallies.{tally_read}
 
 -- ---- the rules of an edit that is accepted
 
-was_read : {Op X : Type 0} (o : Option X) (fault : EditError) (next : X → Result Op EditError) (op : Op) → reads o fault next ≡ Ok op
+pub was_read : {Op X : Type 0} (o : Option X) (fault : EditError) (next : X → Result Op EditError) (op : Op) → reads o fault next ≡ Ok op
     → (x : X) × (o ≡ Some x) × (next x ≡ Ok op)
 was_read None fault next op h = absurd (cc)
 was_read (Some x) fault next op h = (x, refl, h)
 
-was_met : {Op : Type 0} (test : Bool) (fault : EditError) (next : Result Op EditError) (op : Op) → demands test fault next ≡ Ok op
+pub was_met : {Op : Type 0} (test : Bool) (fault : EditError) (next : Result Op EditError) (op : Op) → demands test fault next ≡ Ok op
     → (test ≡ true) × (next ≡ Ok op)
 was_met true fault next op h = (refl, h)
 was_met false fault next op h = absurd (cc)
 
-same_text : (a b : List ℕ) → bytes_eq a b ≡ true → a ≡ b
+pub was_followed : {Op X : Type 0} (r : Result X EditError) (next : X → Result Op EditError) (op : Op) → follows r next ≡ Ok op
+    → (x : X) × (r ≡ Ok x) × (next x ≡ Ok op)
+was_followed (Err fault) next op h = absurd (cc)
+was_followed (Ok x) next op h = (x, refl, h)
+
+pub ok_same : {T : Type 0} (x y : T) → ◌≡◌ {A = Result T EditError} (Ok x) (Ok y) → x ≡ y
+ok_same x y e = cc
+
+pub same_text : (a b : List ℕ) → bytes_eq a b ≡ true → a ≡ b
 same_text a b h = (bytes_eq-Decides a b).0 h
 
 text_same : (a b : List ℕ) → a ≡ b → bytes_eq a b ≡ true
@@ -147,16 +155,21 @@ placed : {A : Type 0} (t : Bool) (a b : A) → (if t then Some a else None) ≡ 
 placed true a b h = (refl, cc)
 placed false a b h = absurd (cc)
 
+-- a name stands at the place where it is found
+pub named_at : (names : List (List ℕ)) (name : List ℕ) (k : ℕ) → position (is_it names name) names ≡ Some k → slice_get names k ≡ Some name
+named_at names name k h =
+    let here = placed (nat_lt (place names name) (length names)) (place names name) k h in
+    let low : place names name < length names = grind (arith, nat_tests, here.0) in
+    let same : get_or names (place names name) [] ≡ name = same_text (get_or names (place names name) []) name (passes_at_first (is_it names name) names [] low) in
+    subst (λ k. slice_get names k ≡ Some name) here.1 (slice_get-get_or names (place names name) [] low ∙ ap Some same)
+
 pub name_accepted : (own : List ℕ) (names : List (List ℕ)) (verb rest : List ℕ) (op : ℕ) → name_edit own names verb rest ≡ Ok op
     → (verb ≡ own) × (slice_get names op ≡ Some rest)
 name_accepted own names verb rest op h =
     let verbs = was_met (bytes_eq verb own) NoVerb _ op h in
     let at = was_read (position (is_it names rest) names) NoVerb Ok op verbs.1 in
-    let here = placed (nat_lt (place names rest) (length names)) (place names rest) at.0 at.1 in
-    let low : place names rest < length names = grind (arith, nat_tests, here.0) in
-    let same : get_or names (place names rest) [] ≡ rest = same_text (get_or names (place names rest) []) rest (passes_at_first (is_it names rest) names [] low) in
-    let number : place names rest ≡ op = here.1 ∙ (let e : Ok at.0 ≡ Ok op = at.2 in cc) in
-    (same_text verb own verbs.0, subst (λ k. slice_get names k ≡ Some rest) number (slice_get-get_or names (place names rest) [] low ∙ ap Some same))
+    let number : at.0 ≡ op = (let e : Ok at.0 ≡ Ok op = at.2 in cc) in
+    (same_text verb own verbs.0, subst (λ k. slice_get names k ≡ Some rest) number (named_at names rest at.0 at.1))
 
 pub name_accepts : (own : List ℕ) (names : List (List ℕ)) (verb rest : List ℕ) (op : ℕ) → AllPairs (λ a b. a ≢ b) names → verb ≡ own → slice_get names op ≡ Some rest
     → name_edit own names verb rest ≡ Ok op

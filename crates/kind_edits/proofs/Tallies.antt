@@ -84,11 +84,11 @@ module _ {S O : Type 0} (m : Meaning S O) where
 demand_on : {Op : Type 0} (test : Bool) (fault : EditError) (next : Result Op EditError) → test ≡ true → demands test fault next ≡ next
 demand_on {Op = Op} test fault next e = ap (λ (t : Bool). demands {Op = Op} t fault next) e
 
-reads_if : {Op X : Type 0} (o : Option X) (fault : EditError) (next : X → Result Op EditError) (P : Op → Type 0) → ((x : X) → o ≡ Some x → IfOk (next x) P) → IfOk (reads o fault next) P
+pub reads_if : {Op X : Type 0} (o : Option X) (fault : EditError) (next : X → Result Op EditError) (P : Op → Type 0) → ((x : X) → o ≡ Some x → IfOk (next x) P) → IfOk (reads o fault next) P
 reads_if None fault next P h = tt
 reads_if (Some x) fault next P h = h x refl
 
-demands_if : {Op : Type 0} (test : Bool) (fault : EditError) (next : Result Op EditError) (P : Op → Type 0) → IfOk next P → IfOk (demands test fault next) P
+pub demands_if : {Op : Type 0} (test : Bool) (fault : EditError) (next : Result Op EditError) (P : Op → Type 0) → IfOk next P → IfOk (demands test fault next) P
 demands_if true fault next P h = h
 demands_if false fault next P h = tt
 

@@ -1,6 +1,8 @@
--- What is printed of an edit that is refused.
+-- What is printed of an edit that is refused, and how a position that is refused refuses an edit.
 use Rattle.std.specs.Prelude.{ℕ, List, ◌++◌, codes}
 use Rattle.std.specs.Fmt.{decimal}
+use Rattle.list_crdt.specs.declared.gap.ListError.{ListError}
+use Rattle.list_crdt.specs.declared.gap.ListError.TheVariants as list
 use Rattle.kind_edits.specs.declared.fault.EditError.{EditError}
 use Rattle.kind_edits.specs.declared.fault.EditError.TheVariants.{NoField, NoVerb, KeyLong, BadNumber, TextLong, IndexOut, PositionFull, NoMemory}
 
@@ -13,3 +15,7 @@ fault_text (TextLong bytes) = codes "text-long " ++ decimal bytes
 fault_text (IndexOut len) = codes "index-out " ++ decimal len
 fault_text (PositionFull steps) = codes "position-full " ++ decimal steps
 fault_text NoMemory = codes "no-memory"
+
+abbrev pub list_fault : ListError → EditError
+list_fault (list.PositionFull steps) = PositionFull steps
+list_fault list.NoMemory = NoMemory

@@ -1,11 +1,16 @@
 pub mod Accepted
 pub mod FaultText
 pub mod FlagEdit
+pub mod Forms
 pub mod KeyEdit
+pub mod Letters
 pub mod NameEdit
 pub mod NumberEdit
+pub mod PlainEdit
+pub mod RichEdit
 pub mod Rules
 pub mod Shown
 pub mod Spelled
+pub mod Stamps
 pub mod TextEdit
 pub mod Words

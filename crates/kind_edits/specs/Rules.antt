@@ -1,5 +1,5 @@
 -- The rules of an edit, which are looked at one after another: the first one that it breaks says why it is refused.
-use Rattle.std.specs.Prelude.{Bool, if◌then◌else◌, Option, None, Some, Result, Err}
+use Rattle.std.specs.Prelude.{Bool, if◌then◌else◌, Option, None, Some, Result, Ok, Err}
 use Rattle.kind_edits.specs.declared.fault.EditError.{EditError}
 
 module _ {Op : Type 0} where
@@ -11,3 +11,8 @@ module _ {Op : Type 0} where
   abbrev pub reads : {X : Type 0} → Option X → EditError → (X → Result Op EditError) → Result Op EditError
   reads None fault next = Err fault
   reads (Some x) fault next = next x
+
+  -- a part that may refuse the edit itself, and what comes after it
+  abbrev pub follows : {X : Type 0} → Result X EditError → (X → Result Op EditError) → Result Op EditError
+  follows (Err fault) next = Err fault
+  follows (Ok x) next = next x

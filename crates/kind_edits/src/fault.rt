@@ -1,4 +1,5 @@
 use crdt_laws::NoMemory;
+use list_crdt::ListError;
 use std::fmt;
 use thiserror::Error;
 
@@ -21,7 +22,7 @@ pub enum EditError {
         /// How many it has.
         bytes: u64,
     },
-    /// An index is past the end of the text.
+    /// An index is past the end of the text, or there is no character between the two.
     IndexOut {
         /// How many characters the text has.
         len: u64,
@@ -43,6 +44,20 @@ impl From<NoMemory> for EditError {
 
     fn from(_error: NoMemory) -> EditError {
         EditError::NoMemory
+    }
+}
+
+impl From<ListError> for EditError {
+    ghost use Rattle.std.specs.Prelude.{◌≡◌};
+    ghost use Rattle.kind_edits.specs.FaultText.{list_fault};
+
+    ghost from_gives = { λ error fault. fault ≡ list_fault error };
+
+    fn from(error: ListError) -> EditError {
+        match error {
+            ListError::PositionFull { steps } => EditError::PositionFull { steps },
+            ListError::NoMemory => EditError::NoMemory,
+        }
     }
 }
 

@@ -3,20 +3,29 @@
 //! The rest is all that follows the one space after the verb, and nothing where the verb ends the line. The operation of an edit of a
 //! number, a flag, a choice, a table, a register or a map does not depend on the field's state. So it is the same on a state and on
 //! that state settled, and it may stand at each stamp that is within the limits.
+//!
+//! An edit of a text counts the characters of the text that its member has. An insert is an operation for each character, and the
+//! operations have stamps one after another. Settling leaves texts as they are, so they are the same on a state settled.
 #![tactic(auto)]
 
 mod fault;
 mod flag;
+mod forms;
 mod key;
 mod laws;
+mod letters;
 mod name;
 mod number;
+mod plain;
+mod rich;
 mod spelled;
 mod text;
+mod text_laws;
 mod words;
 
 pub use fault::EditError;
 pub use flag::{prepare_off_flag, prepare_on_flag};
+pub use forms::MarkWords;
 pub use key::{prepare_entry, prepare_tally};
 pub use laws::{
     accepted_edits, choices_are_set, entries_are_put, latest_is_set, numbers_are_changed,
@@ -25,9 +34,17 @@ pub use laws::{
 };
 pub use name::{prepare_choice, prepare_table};
 pub use number::prepare_number;
+pub use plain::prepare_text;
+pub use rich::prepare_rich;
 pub use spelled::{count_of, residue, signed_of};
 pub use text::prepare_register;
+pub use text_laws::{
+    clocks_before_operations, edits_keep_entries_of_ranges, edits_of_settled_texts, marks_are_put,
+    rich_texts_are_edited, texts_are_edited, words_of_text_edits,
+};
 pub use words::{first_word, only_word};
 
 #[cfg(test)]
 mod tests;
+#[cfg(test)]
+mod text_tests;

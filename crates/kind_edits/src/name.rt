@@ -17,7 +17,7 @@ fn is_named(own: &Txt, name: &str) -> bool
 }
 
 /// The number of a name, counted from 0.
-fn number_of(names: &Names, name: &str) -> Option<u8>
+pub(crate) fn number_of(names: &Names, name: &str) -> Option<u8>
     requires { length names.now ≤ 255 }
     ensures number { result ≡ position (λ own. bytes_eq own name.now) names.now }
     ensures below { IfSome result (λ at. at < length names.now) }
