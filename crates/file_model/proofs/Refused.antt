@@ -15,18 +15,19 @@ use Rattle.forgetting_model.specs.Kept.{Kept}
 use Rattle.forgetting_model.specs.Ledger.{ledger_exported}
 use Rattle.forgetting_model.specs.Made.{kept_absorbed, kept_made}
 use Rattle.forgetting_model.specs.Turns.{taken}
+use Rattle.action_tables.specs.declared.table.Verdict.{Verdict}
+use Rattle.action_tables.specs.declared.table.Verdict.TheVariants.{Lawful, Broken}
 use Rattle.file_model.specs.declared.command.Command.{Command}
 use Rattle.file_model.specs.declared.command.Command.TheVariants.{New, Edit, Show, Stat, Export, Merge, Play, Check, Gen, Upgrade}
 use Rattle.file_model.specs.declared.refusal.Refusal.{Refusal}
-use Rattle.file_model.specs.declared.refusal.Refusal.TheVariants.{Usage, Exists, Taken, SeqFull, Full, Large, Member}
+use Rattle.file_model.specs.declared.refusal.Refusal.TheVariants.{Usage, Exists, Taken, SeqFull, Full, Large, Member, Table, Edit as EditFault}
 use Rattle.file_model.specs.Document.{Documents, Format}
 use Rattle.file_model.specs.Line.{command_of}
-use Rattle.file_model.specs.Named.{Files, at, if_none, if_ok, put, unless}
+use Rattle.file_model.specs.Named.{Files, at, if_none, if_ok, put, refused_as, unless}
 use Rattle.file_model.specs.Record.{member_fault, merge_fault, most_bytes, most_kept, new_record, numbers, own_seq, prepared, size}
 use Rattle.file_model.specs.Sound.{AreSound}
 use Rattle.file_model.specs.Step.{Effect, Outcome, answer, answer_to, batch_at, bytes_at, document_of, edit_file, effect, export_file, file_outcomes, file_run, file_step, is_other_file, meaning_of, merge_file, new_file, outcome_of, record_at, saved, schema_at, stands_alone, written}
-use Rattle.file_model.specs.Text.{delivered_text, document_text, made_text, ok_text, stat_text, tells_refusal, upgraded_text, wrote_text}
-use Rattle.file_model.proofs.Given.{if_ok_is}
+use Rattle.file_model.specs.Text.{checked_text, delivered_text, document_text, made_text, ok_text, stat_text, tells_refusal, upgraded_text, wrote_text}
 
 -- ---- texts that begin with another letter
 
@@ -74,6 +75,10 @@ document_other (number (float x)) = refl
 document_other (string s) = refl
 document_other (array ds) = refl
 document_other (object ms) = refl
+
+verdict_other : (verdict : Verdict) → tells_refusal (checked_text verdict) ≡ false
+verdict_other Lawful = refl
+verdict_other (Broken law a b c) = refl
 
 -- ---- what an accepted line prints
 
@@ -126,7 +131,7 @@ module _ {State Op : Type 0} (docs : Documents State Op) (form : Format State Op
       unless_apart (is_some (at files file)) (Exists file) (if_ok (schema_at docs form files schema) (new_file docs form files file me))
       (ok_apart (schema_at docs form files schema) (new_file docs form files file me) (λ text q. new_apart files file me text))
   answer_apart files (Edit file field verb rest) =
-      let prepare : (Kept State Op → Result (List Op) Refusal) = λ k. prepared (document_of docs form k) k field verb rest in
+      let prepare : (Kept State Op → Result (List Op) Refusal) = λ k. refused_as EditFault (prepared (document_of docs form k) k field verb rest) in
       ok_apart (record_at docs form files file) (λ k. if_ok (prepare k) (edit_file docs form files file k))
       (λ k q. ok_apart (prepare k) (edit_file docs form files file k) (λ ops p. edit_apart files file k ops))
   answer_apart files (Show file) =
@@ -144,8 +149,8 @@ module _ {State Op : Type 0} (docs : Documents State Op) (form : Format State Op
       (λ k q. ok_apart (sent k) (merge_file docs form files file k) (λ b p. merge_apart files file k b))
   answer_apart files Play = tt
   answer_apart files (Check table) =
-      ok_apart (if_ok (bytes_at docs form files table) docs.checked) (λ text. Ok (effect files text))
-      (λ text q. let f = if_ok_is (bytes_at docs form files table) docs.checked text q in sound.checked f.0 text f.2)
+      ok_apart (bytes_at docs form files table) (λ bytes. if_ok (refused_as Table (docs.checked bytes)) (λ verdict. Ok (effect files (checked_text verdict))))
+      (λ bytes q. ok_apart (refused_as Table (docs.checked bytes)) (λ verdict. Ok (effect files (checked_text verdict))) (λ verdict p. verdict_other verdict))
   answer_apart files (Gen start members steps) = sound.generated start members steps
   answer_apart files (Upgrade file) =
       ok_apart (if_ok (bytes_at docs form files file) (form.read_old file)) (λ old. written docs form files file (form.save old.record') (upgraded_text old.version))
