@@ -2,5 +2,8 @@
 #![tactic(auto)]
 
 mod either;
+mod fields;
+mod kinds;
 
 pub use either::Either;
+pub use kinds::KindTower;
