@@ -128,11 +128,7 @@ impl<A: Tower, B: Tower> Tower for Either<A, B> {
         }
     }
 
-    fn show(
-        &self,
-        alloc: Global,
-        state: &Either<A::State, B::State>,
-    ) -> Result<Value, NoMemory> {
+    fn show(&self, alloc: Global, state: &Either<A::State, B::State>) -> Result<Value, NoMemory> {
         match (self, state) {
             (Left(tower), Left(state)) => tower.show(alloc, state),
             (Right(tower), Right(state)) => tower.show(alloc, state),

@@ -45,10 +45,7 @@ pub type AllStates = Either<
 pub type AllOps = Either<
     Either<
         Either<Either<NumberOp, u8>, Either<u8, u8>>,
-        Either<
-            Either<u8, Txt>,
-            Either<Txt, Either<TextOp, Either<KeyOp<NumberOp>, KeyOp<Txt>>>>,
-        >,
+        Either<Either<u8, Txt>, Either<Txt, Either<TextOp, Either<KeyOp<NumberOp>, KeyOp<Txt>>>>>,
     >,
     StackOp<RichOp, MarkRange>,
 >;
@@ -193,11 +190,11 @@ impl Tower for KindTower {
 
     ghost lawful = { λ t. sealed_lawful (⟦<AllKinds as Tower>⟧.meaning t.arm) (
         either_lawful _ (either_lawful _
-            (either_lawful _ (either_lawful _ (λ n. number_lawful n.low.modulus n.high.modulus n.fitting) _ (λ f. table_lawful (fixed_table 2 f.level f.next f.act) f.table f.lawful))
-            _ (either_lawful _ (λ f. table_lawful (fixed_table 2 f.level f.next f.act) f.table f.lawful) _ (λ c. choice_lawful c)))
-            _ (either_lawful _ (either_lawful _ (λ b. table_lawful b.table.table b.table.well_formed b.table.laws) _ (λ _. latest_lawful))
-            _ (either_lawful _ (λ _. several_lawful)
-            _ (either_lawful _ (λ _. text_lawful)
-            _ (either_lawful _ (λ k. keyed_lawful _ (number_lawful k.part.low.modulus k.part.high.modulus k.part.fitting)) _ (λ _. keyed_lawful _ latest_lawful))))))
+        (either_lawful _ (either_lawful _ (λ n. number_lawful n.low.modulus n.high.modulus n.fitting) _ (λ f. table_lawful (fixed_table 2 f.level f.next f.act) f.table f.lawful))
+        _ (either_lawful _ (λ f. table_lawful (fixed_table 2 f.level f.next f.act) f.table f.lawful) _ (λ c. choice_lawful c)))
+        _ (either_lawful _ (either_lawful _ (λ b. table_lawful b.table.table b.table.well_formed b.table.laws) _ (λ _. latest_lawful))
+        _ (either_lawful _ (λ _. several_lawful)
+        _ (either_lawful _ (λ _. text_lawful)
+        _ (either_lawful _ (λ k. keyed_lawful _ (number_lawful k.part.low.modulus k.part.high.modulus k.part.fitting)) _ (λ _. keyed_lawful _ latest_lawful))))))
         _ (λ r. rich_lawful r.low.marks r.high.marks r.fitting) t.arm) };
 }

@@ -6,4 +6,7 @@ mod fields;
 mod kinds;
 
 pub use either::Either;
-pub use kinds::KindTower;
+pub use fields::{FieldOp, FieldState, FieldTower};
+pub use kinds::{
+    AllKinds, AllOps, AllStates, FirstKinds, KindOp, KindState, KindTower, LastKinds, MapKinds,
+};
