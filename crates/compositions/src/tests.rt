@@ -56,13 +56,21 @@ fn after_all<T: Tower>(alloc: Global, tower: &T, ops: &[T::Op]) -> Result<T::Sta
     Ok(state)
 }
 
+// A copy of a state.
+fn copied_state<T: Tower>(alloc: Global, tower: &T, state: &T::State) -> Result<T::State, NoMemory>
+    requires { (T.meaning tower.now).good 3 state.now }
+    ensures { IfOk result (λ s. s ≡ state.now) }
+{
+    tower.copy_state(alloc, state)
+}
+
 // What is shown of a copy of that state, settled.
 fn shown_after<T: Tower>(alloc: Global, tower: &T, ops: &[T::Op]) -> Result<String, NoMemory>
     requires { IsTrue (T.meaning tower.now).plain }
 {
     let state = after_all(alloc, tower, ops)?;
     let settled = tower.settle(alloc, state, &Clock::zero(3))?;
-    let copy = tower.copy_state(alloc, &settled)?;
+    let copy = copied_state(alloc, tower, &settled)?;
     Ok(tower.show(alloc, &copy)?.to_string(alloc)?)
 }
 
@@ -76,6 +84,21 @@ fn acted<T: Tower>(alloc: Global, tower: &T, y: &T::Op, x: &T::Op) -> Result<T::
     }
 }
 
+// A copy of an operation. One that is not valid ends a test as running out of memory does.
+fn copied<T: Tower>(alloc: Global, tower: &T, op: &T::Op) -> Result<T::Op, NoMemory> {
+    if tower.valid(&first_of(0), op) {
+        tower.copy_op(alloc, op)
+    } else {
+        Err(NoMemory)
+    }
+}
+
+// Whether two valid operations are equal.
+fn are_same<T: Tower>(tower: &T, a: &T::Op, b: &T::Op) -> bool {
+    let stamp = first_of(0);
+    tower.valid(&stamp, a) && tower.valid(&stamp, b) && tower.same_op(a, b)
+}
+
 // Whether it becomes the same as a copy of a third one, and no longer itself.
 fn turns<T: Tower>(
     alloc: Global,
@@ -84,9 +107,9 @@ fn turns<T: Tower>(
     x: &T::Op,
     then: &T::Op,
 ) -> Result<bool, NoMemory> {
-    let copy = tower.copy_op(alloc, then)?;
+    let copy = copied(alloc, tower, then)?;
     let acted = acted(alloc, tower, y, x)?;
-    Ok(tower.same_op(&acted, &copy) && !tower.same_op(&acted, x))
+    Ok(are_same(tower, &acted, &copy) && !are_same(tower, &acted, x))
 }
 
 #[test]
@@ -95,7 +118,7 @@ fn keeps_two_numbers_apart(rt: HostRuntime) -> Result<(), Fail> {
     let tower = Pair::of(number(), number());
     let triple = PairOp::Right(StackOp::High(3));
     let seven = PairOp::Right(StackOp::Low(7));
-    assert!(rt; !tower.same_op(&seven, &PairOp::Left(StackOp::Low(7))));
+    assert!(rt; !are_same(&tower, &seven, &PairOp::Left(StackOp::Low(7))));
     let more = PairOp::Right(StackOp::Low(21));
     assert!(rt; turns(alloc, &tower, &triple, &seven, &more)?);
     let ops = [PairOp::Left(StackOp::Low(2)), seven, triple];
@@ -131,7 +154,7 @@ fn keeps_the_parts_of_a_row_apart(rt: HostRuntime) -> Result<(), Fail> {
         op: MaybeOp::Nothing(2),
     };
     assert!(rt; turns(alloc, &tower, &triple, &five, &more)?);
-    assert!(rt; !tower.same_op(&at_part(2, StackOp::Low(5)), &five));
+    assert!(rt; !are_same(&tower, &at_part(2, StackOp::Low(5)), &five));
     let ops = [five, nothing, at_part(2, StackOp::Low(8))];
     assert_eq!(rt;
         shown_after(alloc, &tower, ops.as_slice())?.as_str(),

@@ -377,15 +377,36 @@ fn deletes_a_character(rt: HostRuntime) -> Result<(), Fail> {
     Ok(())
 }
 
+// A copy of a state of a document with two members, where a copy of the valid operation is equal to it.
+fn copied<T: Tower>(
+    alloc: Global,
+    tower: &T,
+    state: &T::State,
+    stamp: &Stamp,
+    op: &T::Op,
+) -> Result<T::State, Fail>
+    requires good { (T.meaning tower.now).good 2 state.now }
+    requires stamp { IsStamp stamp.now }
+    ensures { IfOk result (λ s. s ≡ state.now) }
+{
+    if !tower.valid(stamp, op) {
+        return Err(Fail::from("an operation that is not valid"));
+    }
+    let copy = tower.copy_op(alloc, op)?;
+    if !tower.same_op(&copy, op) {
+        return Err(Fail::from("an operation that is no copy"));
+    }
+    Ok(tower.copy_state(alloc, state)?)
+}
+
 #[test]
 fn copies_texts_and_operations(rt: HostRuntime) -> Result<(), Fail> {
-    let copy = Text.copy_state(rt.alloc(), &three(rt.alloc())?)?;
-    assert_eq!(rt; copy.len(), 3);
+    let text = three(rt.alloc())?;
     let delete = TextOp::Delete {
-        at: copy_at(rt.alloc(), &copy, 1)?,
+        at: copy_at(rt.alloc(), &text, 1)?,
     };
-    let same = Text.copy_op(rt.alloc(), &delete)?;
-    assert!(rt; Text.same_op(&same, &delete));
+    let copy = copied(rt.alloc(), &Text, &text, &stamp_of(0, 3), &delete)?;
+    assert_eq!(rt; copy.len(), 3);
     Ok(())
 }
 

@@ -1,4 +1,4 @@
-ghost use Rattle.std.specs.Prelude.{◌≤◌, IsTrue, IfOk};
+ghost use Rattle.std.specs.Prelude.{◌≡◌, ◌≤◌, IsTrue, IfOk};
 ghost use Rattle.vector_clock.specs.Clock.{max_entry};
 ghost use Rattle.crdt_laws.specs.Tower.{IsStampOf};
 
@@ -165,13 +165,36 @@ fn acted<T: Tower<Op = Txt>>(alloc: Global, tower: &T, y: &Txt, x: &Txt) -> Resu
     }
 }
 
+// A copy of a state.
+fn copied_state<T: Tower>(alloc: Global, tower: &T, state: &T::State) -> Result<T::State, NoMemory>
+    requires { (T.meaning tower.now).good 3 state.now }
+    ensures { IfOk result (λ s. s ≡ state.now) }
+{
+    tower.copy_state(alloc, state)
+}
+
+// A copy of an operation. One that is not valid ends a test as running out of memory does.
+fn copied<T: Tower<Op = Txt>>(alloc: Global, tower: &T, op: &Txt) -> Result<Txt, NoMemory> {
+    if tower.valid(&stamp(0), op) {
+        tower.copy_op(alloc, op)
+    } else {
+        Err(NoMemory)
+    }
+}
+
+// Whether two valid operations are equal.
+fn are_same<T: Tower<Op = Txt>>(tower: &T, a: &Txt, b: &Txt) -> bool {
+    let stamp = stamp(0);
+    tower.valid(&stamp, a) && tower.valid(&stamp, b) && tower.same_op(a, b)
+}
+
 // What is shown of a copy of the settled state after one set.
 fn shown_settled<T: Tower<Op = Txt>>(alloc: Global, tower: &T, op: &Txt) -> Result<String, NoMemory>
     requires { IsTrue (T.meaning tower.now).plain }
 {
     let state = after(alloc, tower, tower.init(alloc)?, 0, op)?;
     let settled = tower.settle(alloc, state, &Clock::zero(3))?;
-    let copy = tower.copy_state(alloc, &settled)?;
+    let copy = copied_state(alloc, tower, &settled)?;
     Ok(tower.show(alloc, &copy)?.to_string(alloc)?)
 }
 
@@ -180,11 +203,11 @@ fn keeps_texts(rt: HostRuntime) -> Result<(), Fail> {
     let alloc = rt.alloc();
     let lion = text(alloc, "Lion")?;
     let swan = text(alloc, "Swan")?;
-    assert!(rt; Latest.same_op(&lion, &Latest.copy_op(alloc, &lion)?));
-    assert!(rt; Several.same_op(&lion, &Several.copy_op(alloc, &lion)?));
-    assert!(rt; !Latest.same_op(&lion, &swan) && !Several.same_op(&lion, &swan));
-    assert!(rt; Latest.same_op(&lion, &acted(alloc, &Latest, &swan, &lion)?));
-    assert!(rt; Several.same_op(&lion, &acted(alloc, &Several, &swan, &lion)?));
+    assert!(rt; are_same(&Latest, &lion, &copied(alloc, &Latest, &lion)?));
+    assert!(rt; are_same(&Several, &lion, &copied(alloc, &Several, &lion)?));
+    assert!(rt; !are_same(&Latest, &lion, &swan) && !are_same(&Several, &lion, &swan));
+    assert!(rt; are_same(&Latest, &lion, &acted(alloc, &Latest, &swan, &lion)?));
+    assert!(rt; are_same(&Several, &lion, &acted(alloc, &Several, &swan, &lion)?));
     assert_eq!(rt; shown_settled(alloc, &Latest, &lion)?.as_str(), r#""Lion""#);
     assert_eq!(rt;
         shown_settled(alloc, &Several, &lion)?.as_str(),

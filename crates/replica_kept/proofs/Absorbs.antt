@@ -1,32 +1,41 @@
 -- A kept record after a batch without a fault keeps what each record keeps.
-use Rattle.std.proofs.Common.{◌≡◌, ℕ, ◌+◌, ◌<◌, ◌≤◌, Bool, false, not, List, ap, sym, ◌∙◌, subst, arith, length, set, inl, inr, Contains, refl}
+use Rattle.std.proofs.Common.{◌≡◌, ℕ, ◌+◌, ◌<◌, ◌≤◌, Bool, false, not, List, ap, sym, ◌∙◌, subst, arith, length, set, sum, fold, inl, inr, Contains, refl}
+use Rattle.std.specs.Prelude.{filter}
 use Rattle.std.specs.List.{All}
 use Rattle.std.proofs.lemmas.List.Elements.{All-contains}
 use Rattle.vector_clock.specs.declared.clock.Clock.{Clock}
 use Rattle.vector_clock.specs.Clock.{IsAtMost, covers, zero_clock, max_members}
 use Rattle.vector_clock.specs.Stamp.{id_of}
 use Rattle.vector_clock.proofs.Bounds.{at_most_trans}
+use Rattle.vector_clock.proofs.Keys.{covers_more}
 use Rattle.crdt_laws.specs.declared.small.Entry.{Entry}
-use Rattle.crdt_laws.specs.Sets.{beyond, union}
+use Rattle.crdt_laws.specs.Sets.{AreIssued, beyond, union}
 use Rattle.crdt_laws.specs.Tower.{Meaning, IsIssued, IsLawful}
 use Rattle.crdt_laws.proofs.Filters.{apart-filter, rising-filter}
 use Rattle.replica_model.specs.Replica.{Batch, heard, heard_header, meet_all, row}
 use Rattle.replica_model.proofs.Names.{all_from_contains}
+use Rattle.replica_model.proofs.Ready.{covers_on}
+use Rattle.weave_core.specs.Deliver.{deliver, is_high, trim}
 use Rattle.forgetting_model.specs.Kept.{Kept, kept_with}
 use Rattle.forgetting_model.specs.Ledger.{Ledger, come, ledger_with, own_row, raised, trimmed}
 use Rattle.forgetting_model.specs.Made.{kept_absorbed}
 use Rattle.forgetting_model.specs.Turns.{ledger_absorbed, taken}
+use Rattle.forgetting_model.proofs.Floors.{floor_below}
 use Rattle.forgetting_model.proofs.Forgets.{in_beyond}
 use Rattle.forgetting_model.proofs.Raised.{raised_grows}
-use Rattle.forgetting_model.proofs.Rows.{AreRows, AreStamped, heard_header_rows, heard_rows, row_set_same, rows-set}
+use Rattle.forgetting_model.proofs.Rows.{AreRows, AreStamped, heard_grows, heard_header_grows, heard_header_rows, heard_rows, row_set, row_set_same, rows-set}
+use Rattle.forgetting_model.proofs.Tells.{covers_itself}
 use Rattle.replica_kept.specs.Held.{IsHeld}
 use Rattle.replica_kept.specs.Merging.{IsBatchOf, IsFaultless}
-use Rattle.replica_kept.specs.Sound.{AreKept, IsRow, IsSound, burden, max_burden}
+use Rattle.replica_kept.specs.Sound.{AreForms, AreKept, IsRow, IsSound, burden, max_burden}
 use Rattle.causal_buffer.proofs.Placed.{same_at}
+use Rattle.replica_kept.proofs.Between.{AreBetween}
 use Rattle.replica_kept.proofs.Coming
+use Rattle.replica_kept.proofs.Counting.{counted_after, raised_sums}
 use Rattle.replica_kept.proofs.Edits
 use Rattle.replica_kept.proofs.Within.{IsLow, low_after, low_raised, low_rows}
-use Rattle.replica_kept.proofs.Entering.{IsEntering, entered_apart, entered_count, entered_from, entered_rises}
+use Rattle.replica_kept.proofs.Entering.{IsEntering, entered_apart, entered_count, entered_from, entered_many, entered_rises, next_outside, placed_is}
+use Rattle.replica_kept.proofs.Matching.{forms_kept}
 
 -- the rows after a batch
 abbrev pub rows_after : {Op : Type 0} → Ledger Op → Batch Op → List Clock
@@ -99,6 +108,40 @@ module _ {State Op : Type 0} (m : Meaning State Op) (law : IsLawful m) (k : Kept
     | inr j ↦ Coming.taken_known m law k sound b ok free e j
   ]
 
+  -- each row grows
+  rows_grow : (j : ℕ) → IsAtMost (row k.ledger.known j) (row rows j)
+  rows_grow =
+      let before : AreRows n k.ledger.known = record { length = refl; clocks = λ i d l. (sound.rows i d l).clock } in
+      let heard_rows = heard_rows n k.ledger.known new before stamped in
+      let told : ((j : ℕ) → IsAtMost (row k.ledger.known j) (row (heard_header (heard k.ledger.known new) b.sender b.header later) j)) = λ j.
+      at_most_trans (row k.ledger.known j) (row (heard k.ledger.known new) j) (row (heard_header (heard k.ledger.known new) b.sender b.header later) j) (heard_grows n k.ledger.known new before stamped j)
+      (heard_header_grows n (heard k.ledger.known new) heard_rows b.sender b.header later ok.sender ok.header.clock j) in
+      row_set (λ (j : ℕ) (c : Clock). IsAtMost (row k.ledger.known j) c) (heard_header (heard k.ledger.known new) b.sender b.header later) k.ledger.me later told
+      (raised_grows n (own_row k.ledger) new (Edits.own_clock m law k sound) stamped)
+
+  between : AreBetween (meet_all k.ledger.known) later all
+  between = record {
+    apart = entered_apart (own_row l) later k.ledger.log k.ledger.waiting (Coming.new_of k.ledger b) new entering;
+    new = λ e c. elim (entered_from (own_row l) later k.ledger.log k.ledger.waiting (Coming.new_of k.ledger b) new entering e c) [
+      | inl i ↦ sound.unstable e i
+      | inr j ↦ covers_more (meet_all k.ledger.known) (own_row k.ledger) e.stamp (floor_below k.ledger.known k.ledger.me sound.me) (next_outside n (own_row k.ledger) new (Edits.own_clock m law k sound) stamped (Coming.taken_next m law k sound b ok free) e j)
+    ];
+    covered = λ e c. covers_on e.stamp.clock later (id_of e.stamp) (all_known e c) (covers_itself e);
+  }
+
+  counted : length (beyond f all) + sum f.at ≡ sum later.at
+  counted =
+      counted_after n k.ledger.known rows (record { length = refl; clocks = λ i d l. (sound.rows i d l).clock }) rows_are k.ledger.me sound.me later own_after (λ j l. rows_grow j) all (Coming.later_clock m law k sound b ok free).clock between
+      (let many = entered_many (own_row l) later k.ledger.log k.ledger.waiting (Coming.new_of k.ledger b) new entering in
+      let up = raised_sums n (own_row k.ledger) new (Edits.own_clock m law k sound) stamped (Coming.taken_next m law k sound b ok free) in
+      let before = sound.counted in
+      omega (arith, many, up, before))
+
+  forms : AreForms m (trim m (fold (deliver m) k.woven new) f).history (filter (is_high m) (beyond f all))
+  forms =
+      subst (λ (xs : List (Entry Op)). AreForms m (trim m (fold (deliver m) k.woven new) f).history (filter (is_high m) (beyond f xs))) (placed_is (own_row l) later k.ledger.log k.ledger.waiting (Coming.new_of k.ledger b) new entering)
+      (forms_kept m law n k.woven k.ledger.log new f (subst (λ (i : ℕ). AreIssued m i k.woven.history) (Edits.own_clock m law k sound).members sound.held.well.issued) sound.log.rising (Coming.taken_issued m law k sound b ok free) sound.forms)
+
   -- how many are kept and wait
   pub burden_is : (a c w : ℕ) → a ≡ length (beyond f k.ledger.log) → c ≡ length (beyond f new) → w ≡ length (beyond later (come k.ledger b)) → a + c + w ≡ burden (ledger_absorbed k.ledger b)
   burden_is a c w p q r =
@@ -127,6 +170,8 @@ module _ {State Op : Type 0} (m : Meaning State Op) (law : IsLawful m) (k : Kept
           rising = rising-filter out all (entered_rises (own_row l) later k.ledger.log k.ledger.waiting (Coming.new_of k.ledger b) new entering);
           apart = apart-filter out all (entered_apart (own_row l) later k.ledger.log k.ledger.waiting (Coming.new_of k.ledger b) new entering);
         });
+        counted = counted ∙ sym (ap (λ (c : Clock). sum c.at) own_after);
+        forms = forms;
         unstable = λ e c. (in_beyond f all e c).1;
         known = λ e c. subst (IsAtMost e.stamp.clock) (sym own_after) (all_known e (in_beyond f all e c).0);
         waiting = subst (λ (i : ℕ). AreKept m i left) (sym len) (record {

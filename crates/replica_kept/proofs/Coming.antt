@@ -31,7 +31,7 @@ use Rattle.forgetting_model.proofs.Tells.{covers_itself}
 use Rattle.causal_buffer.specs.Buffer.{ArePlaces, by_id}
 use Rattle.causal_buffer.proofs.Whole.{some_by_key}
 use Rattle.replica_kept.specs.Merging.{IsBatchOf, IsFaultless, last_of}
-use Rattle.replica_kept.specs.Sound.{IsSound}
+use Rattle.replica_kept.specs.Sound.{CoversNone, IsSound}
 use Rattle.replica_kept.proofs.Edits
 use Rattle.replica_kept.proofs.Entering.{IsEntering, apart_append, next_apart}
 
@@ -95,6 +95,9 @@ module _ {State Op : Type 0} (m : Meaning State Op) (law : IsLawful m) (k : Kept
   new_inside : (e : Entry Op) → Contains (new_of k.ledger b) e → Contains b.ops e × (covers own (id_of e.stamp) ≡ false)
   new_inside e c = in_beyond own b.ops e (filter_inside (λ (e : Entry Op). not (has_id k.ledger.waiting (id_of e.stamp))) (beyond own b.ops) e c)
 
+  pub new_uncovered : (xs : List (Entry Op)) (d : Clock) → xs ≡ new_of k.ledger b → d ≡ own_row k.ledger → CoversNone d xs
+  new_uncovered xs d is same e c = ap (λ (k : Clock). covers k (id_of e.stamp)) same ∙ (new_inside e (subst (λ (l : List (Entry Op)). Contains l e) is c)).1
+
   new_unnamed : (e : Entry Op) → Contains (new_of k.ledger b) e → has_id k.ledger.waiting (id_of e.stamp) ≡ false
   new_unnamed e c = not-true (has_id k.ledger.waiting (id_of e.stamp)) (filter_passed (λ (e : Entry Op). not (has_id k.ledger.waiting (id_of e.stamp))) (beyond own b.ops) e c)
 
@@ -109,6 +112,9 @@ module _ {State Op : Type 0} (m : Meaning State Op) (law : IsLawful m) (k : Kept
     stamp = All-contains (λ (e : Entry Op). IsStampOf (length k.ledger.known) e.stamp) b.ops e ok.stamped c;
     valid = All-contains (λ (e : Entry Op). m.valid e.stamp e.op) b.ops e free.valid c;
   }
+
+  pub new_issued : AreIssued m (length k.ledger.known) (new_of k.ledger b)
+  new_issued = all_from_contains Issued (new_of k.ledger b) (λ e c. batch_issued e (new_inside e c).0)
 
   pub new_stamps : All (λ e. IsStamp e.stamp) (new_of k.ledger b)
   new_stamps = all_from_contains (λ (e : Entry Op). IsStamp e.stamp) (new_of k.ledger b) (λ e c. (batch_issued e (new_inside e c).0).stamp.stamp)

@@ -1,5 +1,5 @@
 -- Operations that come in one after another have ids of their own, and stand by key once they are in.
-use Rattle.std.proofs.Common.{◌≡◌, ℕ, ◌+◌, ◌<◌, ◌≤◌, refl, length-append, Bool, true, false, not, List, [], ◌∷◌, ◌++◌, ap, sym, ◌∙◌, subst, arith, length, cond, Contains, inl, inr, ◌⊎◌, ◌↔◌}
+use Rattle.std.proofs.Common.{◌≡◌, ℕ, suc, ◌+◌, ◌<◌, ◌≤◌, refl, length-append, Bool, true, false, not, List, [], ◌∷◌, ◌++◌, ap, sym, ◌∙◌, subst, arith, length, cond, Contains, inl, inr, ◌⊎◌, ◌↔◌}
 use Rattle.std.specs.Prelude.{filter}
 use Rattle.std.specs.List.{AllByRecursion}
 use Rattle.std.proofs.lemmas.Bool.{both_ways, false_from_ne_true, not_from_false}
@@ -11,21 +11,24 @@ use Rattle.vector_clock.specs.Clock.{covers, join}
 use Rattle.vector_clock.specs.Stamp.{id_of, is_below, same_id}
 use Rattle.vector_clock.proofs.Bounds.{join_left, join_right}
 use Rattle.vector_clock.proofs.Keys.{covers_more, ids_other}
+use Rattle.vector_clock.proofs.Ordered.{all_weaker}
 use Rattle.crdt_laws.specs.declared.small.Entry.{Entry}
 use Rattle.crdt_laws.specs.Interleaved.{interleaved}
-use Rattle.crdt_laws.specs.Sets.{AreApart, IsRising, canonical, has_id, place, union}
-use Rattle.crdt_laws.proofs.Filters.{all-append, apart-filter, rising-filter}
+use Rattle.crdt_laws.specs.Sets.{AreApart, IsRising, beyond, canonical, has_id, place, union}
+use Rattle.crdt_laws.proofs.Filters.{all-append, all-place, apart-filter, rising-filter}
 use Rattle.crdt_laws.proofs.Interleave.{interleaved_canonical, rising-interleaved}
-use Rattle.crdt_laws.proofs.Place.{rising-canonical}
-use Rattle.crdt_laws.proofs.Members.{Contains-canonical, Contains-cases, Contains-front, Contains-more, canonical_same, filter_has, filter_inside, filter_passed}
+use Rattle.crdt_laws.proofs.Place.{rising-canonical, rising-place}
+use Rattle.crdt_laws.proofs.Members.{Contains-canonical, Contains-cases, Contains-front, Contains-more, Contains-place, at_member, canonical_same, each, filter_has, filter_inside, filter_passed, rising_same}
 use Rattle.weave_core.proofs.Theorems.{apart-canonical}
-use Rattle.replica_model.proofs.Names.{named_in}
+use Rattle.replica_model.proofs.Names.{named_in, same_id_from_ids}
 use Rattle.replica_model.proofs.Pools.{each_from}
 use Rattle.replica_model.proofs.Ready.{covers_on}
+use Rattle.forgetting_model.specs.Made.{placed}
 use Rattle.forgetting_model.specs.Truth.{IsClockOf}
 use Rattle.forgetting_model.specs.Turns.{AreNext}
 use Rattle.forgetting_model.proofs.Rows.{AreStamped, clock_of-join, stamp_clock}
 use Rattle.forgetting_model.proofs.Tells.{covers_itself}
+use Rattle.replica_kept.specs.Sound.{CoversNone}
 use Rattle.replica_kept.proofs.Holding.{next_new}
 
 pub apart_append : {Op : Type 0} (xs ys : List (Entry Op)) → AreApart xs → AreApart ys → ((a b : Entry Op) → Contains xs a → Contains ys b → id_of b.stamp ≡ id_of a.stamp → ⊥) → AreApart (xs ++ ys)
@@ -72,6 +75,57 @@ filter_fewer {X} p xs = let split = length-filter_both p (λ (x : X). not (p x))
 filter_all : {X : Type 0} (p : X → Bool) (xs : List X) → AllByRecursion (λ x. p x ≡ true) xs → filter p xs ≡ xs
 filter_all p [] h = refl
 filter_all p (x ∷ xs) h = ap (λ (b : Bool). cond b (x ∷ filter p xs) (filter p xs)) h.0 ∙ ap (λ l. x ∷ l) (filter_all p xs h.1)
+
+-- operations put into their places
+
+in_place : {Op : Type 0} (x : Entry Op) (l : List (Entry Op)) (e : Entry Op) → Contains (place x l) e → Contains (x ∷ l) e
+in_place {Op} x l e c = at_member (Contains (x ∷ l)) (place x l) e (all-place (Contains (x ∷ l)) x (Contains-front x l) l (all_weaker (Contains l) (Contains (x ∷ l)) (λ z k. Contains-more x l z k) l (each l))) c
+
+in_placed : {Op : Type 0} (xs log : List (Entry Op)) (e : Entry Op) → Contains (placed log xs) e ↔ Contains (log ++ xs) e
+in_placed [] log e = (λ c. Contains-append_left log [] e c, λ c. elim (Contains-append_cases log [] e c) [ inl i ↦ i | inr j ↦ (let l : j.0 < 0 = j.1 in absurd (omega arith)) ])
+in_placed {Op} (x ∷ xs) log e = (
+  λ c. elim (Contains-append_cases (place x log) xs e ((in_placed xs (place x log) e).0 c)) [
+    | inl i ↦ elim (Contains-cases x log e (in_place x log e i)) [
+      | inl q ↦ Contains-append_right log (x ∷ xs) e (subst (Contains (x ∷ xs)) q (Contains-front x xs))
+      | inr j ↦ Contains-append_left log (x ∷ xs) e j
+    ]
+    | inr j ↦ Contains-append_right log (x ∷ xs) e (Contains-more x xs e j)
+  ],
+  λ c. (in_placed xs (place x log) e).1 (elim (Contains-append_cases log (x ∷ xs) e c) [
+    | inl i ↦ Contains-append_left (place x log) xs e (Contains-place x log e (Contains-more x log e i))
+    | inr j ↦ elim (Contains-cases x xs e j) [
+      | inl q ↦ Contains-append_left (place x log) xs e (subst (Contains (place x log)) q (Contains-place x log x (Contains-front x log)))
+      | inr k ↦ Contains-append_right (place x log) xs e k
+    ]
+  ]),
+)
+
+placed_rises : {Op : Type 0} (log xs : List (Entry Op)) → IsRising log → AreApart xs → ((e f : Entry Op) → Contains log e → Contains xs f → id_of e.stamp ≡ id_of f.stamp → ⊥) → IsRising (placed log xs)
+placed_rises log [] r a other = r
+placed_rises {Op} log (x ∷ xs) r a other =
+    placed_rises (place x log) xs
+    (rising-place x log (each_from (λ (e : Entry Op). same_id x.stamp e.stamp ≡ false) log (λ e c. ids_other x.stamp e.stamp (λ same. other e x c (Contains-front x xs) same))) r)
+    a.1
+    (λ e f c d same. elim (Contains-cases x log e (in_place x log e c)) [
+      | inl q ↦ both_ways (same_id x.stamp f.stamp) (at_member (λ (z : Entry Op). same_id x.stamp z.stamp ≡ false) xs f a.0 d) (same_id_from_ids x.stamp f.stamp (ap (λ (z : Entry Op). id_of z.stamp) q ∙ same))
+      | inr j ↦ other e f j (Contains-more x xs f d) same
+    ])
+
+-- how many there are
+place_more : {Op : Type 0} (x : Entry Op) (l : List (Entry Op)) → length (place x l) ≡ suc (length l)
+place_more x [] = refl
+place_more x (y ∷ l) = elim (is_below x.stamp y.stamp) as (λ b. length (cond b (x ∷ y ∷ l) (y ∷ place x l)) ≡ suc (suc (length l))) [
+  | true ↦ refl
+  | false ↦ ap (λ (i : ℕ). suc i) (place_more x l)
+]
+
+pub canonical_many : {Op : Type 0} (xs : List (Entry Op)) → length (canonical xs) ≡ length xs
+canonical_many [] = refl
+canonical_many (x ∷ xs) = place_more x (canonical xs) ∙ ap (λ (i : ℕ). suc i) (canonical_many xs)
+
+-- what a clock covers none of stays whole
+pub beyond_whole : {Op : Type 0} (k : Clock) (xs : List (Entry Op)) → CoversNone k xs → beyond k xs ≡ xs
+beyond_whole {Op} k xs none = filter_all (λ (e : Entry Op). not (covers k (id_of e.stamp))) xs (each_from (λ (e : Entry Op). not (covers k (id_of e.stamp)) ≡ true) xs (λ e c. not_from_false (covers k (id_of e.stamp)) (none e c)))
 
 -- Of operations that are in, and two further lists, those that the clock covers are those that come in.
 pub record IsEntering {Op : Type 0} (own later : Clock) (log ws ns new : List (Entry Op)) : Type 0 where
@@ -172,6 +226,18 @@ module _ {Op : Type 0} (own later : Clock) (log ws ns new : List (Entry Op)) (h 
 
   pub entered_from : (e : Entry Op) → Contains (union log new) e → Contains log e ⊎ Contains new e
   entered_from e c = Contains-append_cases log new e ((Contains-canonical (log ++ new) e).1 (subst (λ (l : List (Entry Op)). Contains l e) union_is c))
+
+  -- one after another they come to the same places
+  pub placed_is : placed log new ≡ union log new
+  placed_is =
+      rising_same (placed log new) (canonical (log ++ new))
+      (placed_rises log new h.log_rises h.new_apart (λ e f c d same. both_ways (covers own (id_of f.stamp)) (new_outside f d) (subst (λ (i : Id). covers own i ≡ true) same (h.old e c))))
+      (rising-canonical (log ++ new) with_new) (λ e. (λ c. (Contains-canonical (log ++ new) e).0 ((in_placed new log e).0 c), λ c. (in_placed new log e).1 ((Contains-canonical (log ++ new) e).1 c)))
+      ∙ sym union_is
+
+  -- how many of them there are
+  pub entered_many : length (union log new) ≡ length log + length new
+  entered_many = ap length union_is ∙ canonical_many (log ++ new) ∙ length-append log new
 
   -- how many of them pass a test
   pub entered_count : (p : Entry Op → Bool) → length (filter p (union log new)) ≡ length (filter p log) + length (filter p new)

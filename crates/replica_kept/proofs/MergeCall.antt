@@ -1,13 +1,13 @@
 -- What the parts of a merge know.
-use Rattle.std.proofs.Common.{◌≡◌, ℕ, zero, suc, ◌+◌, ◌<◌, ◌≤◌, ◌^◌, true, false, not, cond, List, [], ◌∷◌, ◌++◌, refl, ap, ap₂, sym, ◌∙◌, subst, arith, length, length-append, get_or, set, fold}
+use Rattle.std.proofs.Common.{◌≡◌, ℕ, zero, suc, ◌+◌, ◌<◌, ◌≤◌, ◌^◌, not, List, [], ◌∷◌, ◌++◌, ap, ap₂, sym, ◌∙◌, subst, arith, length, length-append, get_or, set, fold}
 use Rattle.std.specs.Prelude.{filter}
 use Rattle.std.specs.List.{All}
 use Rattle.vector_clock.specs.declared.clock.Clock.{Clock}
 use Rattle.vector_clock.specs.Clock.{covers, join}
-use Rattle.vector_clock.specs.Stamp.{IsStamp, id_of, is_below}
+use Rattle.vector_clock.specs.Stamp.{IsStamp, id_of}
 use Rattle.crdt_laws.specs.declared.small.Entry.{Entry}
 use Rattle.crdt_laws.specs.Interleaved.{interleaved}
-use Rattle.crdt_laws.specs.Sets.{AreIssued, IsRising, beyond, canonical, has_id, place, union}
+use Rattle.crdt_laws.specs.Sets.{AreFormed, AreIssued, IsRising, beyond, canonical, has_id, union}
 use Rattle.crdt_laws.specs.Tower.{Meaning, IsLawful, IsStampOf}
 use Rattle.weave_core.specs.Deliver.{Weave, deliver, trim}
 use Rattle.replica_model.specs.Replica.{Batch, heard, heard_header, meet_all}
@@ -21,15 +21,20 @@ use Rattle.history_trim.specs.Rows.{AreRows, rows_of}
 use Rattle.replica_kept.specs.Did.{merged_of}
 use Rattle.replica_kept.specs.Held.{IsHeld}
 use Rattle.replica_kept.specs.Merging.{IsBatchOf, IsFaultless}
-use Rattle.replica_kept.specs.Sound.{AreKept, IsSameMember, IsSound, burden, max_burden}
+use Rattle.replica_kept.specs.Sound.{AreKept, CoversNone, IsSameMember, IsSound, burden, max_burden}
 use Rattle.replica_kept.proofs.Absorbs
 use Rattle.replica_kept.proofs.Absorbs.{rows_after}
+use Rattle.replica_kept.proofs.Advance.{new_past}
 use Rattle.replica_kept.proofs.Coming
 use Rattle.replica_kept.proofs.EditCall.{seen, size_of}
-use Rattle.replica_kept.proofs.Entering.{entered_is, filter_fewer}
+use Rattle.replica_kept.proofs.Entering.{canonical_many, entered_is, filter_fewer}
 
 pub kept_stamps : {State Op : Type 0} (m : Meaning State Op) (n : ℕ) (ys xs : List (Entry Op)) → AreKept m n ys → xs ≡ ys → All (λ e. IsStamp e.stamp) xs
 kept_stamps {Op = Op} m n ys xs h is = subst (All (λ (e : Entry Op). IsStamp e.stamp)) (sym is) (λ k d l. (h.issued k d l).stamp.stamp)
+
+-- what is issued may stand at some stamp
+pub issued_formed : {State Op : Type 0} (m : Meaning State Op) (law : IsLawful m) (n : ℕ) (ys xs : List (Entry Op)) → AreIssued m n ys → xs ≡ ys → AreFormed m xs
+issued_formed {Op = Op} m law n ys xs h is = subst (AreFormed m) (sym is) (λ k d l. law.valid_well_formed (get_or ys k d).stamp (get_or ys k d).op (h k d l).valid)
 
 -- the log and what waits, of the clock that is later
 abbrev pub logged : {Op : Type 0} → Clock → List (Entry Op) → List (Entry Op) → List (Entry Op) → List (Entry Op)
@@ -42,25 +47,16 @@ after_of m z me rows later new ready left =
       woven = trim m (fold (deliver m) z.woven ready) (meet_all rows);
     }
 
-pub after_is : {State Op : Type 0} (m : Meaning State Op) (doc : List ℕ) (kn : Known) (log waiting : List (Entry Op)) (woven : Weave State Op) (k : Kept State Op) → seen doc kn log waiting woven ≡ k
+pub after_call : {State Op : Type 0} (m : Meaning State Op) (doc : List ℕ) (kn : Known) (log waiting : List (Entry Op)) (woven : Weave State Op) (k : Kept State Op) → seen doc kn log waiting woven ≡ k
     → (me : ℕ) (rows : List Clock) (later : Clock) (new ready left l : List (Entry Op)) → l ≡ logged later log waiting new
-    → record { ledger = record { doc = doc; me = me; log = beyond (meet_all rows) l; waiting = left; known = rows }; woven = trim m (fold (deliver m) woven ready) (meet_all rows) } ≡ after_of m k me rows later new ready left
-after_is {State} {Op} m doc kn log waiting woven k is me rows later new ready left l made =
-    ap (λ (z : List (Entry Op)). record { ledger = record { doc = doc; me = me; log = beyond (meet_all rows) z; waiting = left; known = rows }; woven = trim m (fold (deliver m) woven ready) (meet_all rows) }) made
+    → (floor : Clock) → floor ≡ meet_all rows → (kl : List (Entry Op)) (w w' : Weave State Op) → kl ≡ beyond floor l → w ≡ fold (deliver m) woven ready → w' ≡ trim m w floor
+    → record { ledger = record { doc = doc; me = me; log = kl; waiting = left; known = rows }; woven = w' } ≡ after_of m k me rows later new ready left
+after_call {State} {Op} m doc kn log waiting woven k is me rows later new ready left l made floor f kl w w' a b c =
+    let of : List (Entry Op) → Weave State Op → Kept State Op = λ z v. record { ledger = record { doc = doc; me = me; log = z; waiting = left; known = rows }; woven = v } in
+    ap₂ of (a ∙ ap₂ beyond f made) (c ∙ ap₂ (trim m) b f)
     ∙ ap (λ (z : Kept State Op). after_of m z me rows later new ready left) is
 
--- how many there are
-place_more : {Op : Type 0} (x : Entry Op) (l : List (Entry Op)) → length (place x l) ≡ suc (length l)
-place_more x [] = refl
-place_more x (y ∷ l) = elim (is_below x.stamp y.stamp) as (λ b. length (cond b (x ∷ y ∷ l) (y ∷ place x l)) ≡ suc (suc (length l))) [
-  | true ↦ refl
-  | false ↦ ap (λ (i : ℕ). suc i) (place_more x l)
-]
-
-canonical_many : {Op : Type 0} (xs : List (Entry Op)) → length (canonical xs) ≡ length xs
-canonical_many [] = refl
-canonical_many (x ∷ xs) = place_more x (canonical xs) ∙ ap (λ (i : ℕ). suc i) (canonical_many xs)
-
+-- no more turns than these
 turns_few : {Op : Type 0} (k : ℕ) (d : Clock) (xs : List (Entry Op)) → length (in_turn k d xs) ≤ k
 turns_few zero d xs = omega arith
 turns_few {Op} (suc k) d xs = go (λ e zs. turns_few k e zs) (filter (is_next d) xs)
@@ -114,6 +110,9 @@ module _ {State Op : Type 0} (m : Meaning State Op) (law : IsLawful m) (kn : Kno
 
     pub ready_next : AreNext (own_row k.ledger) ready
     ready_next = subst (AreNext (own_row k.ledger)) (sym ready_is) (Coming.taken_next m law k sound b ok free)
+
+    pub ready_past : (before : Clock) → before ≡ meet_all k.ledger.known → CoversNone before ready
+    ready_past before is = subst (λ (c : Clock). CoversNone c ready) (sym is) (new_past m law k sound ready ready_issued ready_next)
 
     pub stamped_call : (ops : List (Entry Op)) → ops ≡ ready → All (λ e. IsStampOf kn.n e.stamp) ops
     stamped_call ops is = subst (All (λ (e : Entry Op). IsStampOf kn.n e.stamp)) (sym is) (λ i d l. subst (λ (n : ℕ). IsStampOf n (get_or ready i d).stamp) size (ready_issued i d l).stamp)

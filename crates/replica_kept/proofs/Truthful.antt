@@ -1,5 +1,5 @@
 -- What honest members keep and send meets what a merge asks.
-use Rattle.std.proofs.Common.{◌≡◌, ℕ, ◌<◌, ◌≤◌, ◌^◌, true, List, [], ◌∷◌, refl, ap, sym, subst, arith, length, map, Contains, get_or, inl, inr}
+use Rattle.std.proofs.Common.{◌≡◌, ℕ, ◌+◌, ◌<◌, ◌≤◌, ◌^◌, ◌∙◌, true, List, [], ◌∷◌, refl, ap, sym, subst, arith, sum, length, map, Contains, get_or, inl, inr}
 use Rattle.std.specs.Prelude.{filter}
 use Rattle.std.specs.List.{AllByRecursion}
 use Rattle.std.proofs.lemmas.Bool.{cases_lt, false_from_ne_true, le-leb}
@@ -26,23 +26,16 @@ use Rattle.replica_model.proofs.Things.{batches_have, operations_have}
 use Rattle.forgetting_model.specs.Kept.{Kept, kept, whole}
 use Rattle.forgetting_model.specs.Ledger.{Ledger, ledger}
 use Rattle.forgetting_model.specs.Truth.{IsClockOf, IsTold, IsTrueBatch, IsTrueFamily, IsTrueReplica}
-use Rattle.forgetting_model.proofs.Allowed.{kept_good, kept_issued, kept_stamps}
+use Rattle.forgetting_model.proofs.Allowed.{kept_good, kept_issued, kept_levels, kept_stamps}
+use Rattle.forgetting_model.proofs.Counts.{log_counts}
 use Rattle.forgetting_model.proofs.Forgets.{d_covers, d_knows, in_beyond}
 use Rattle.forgetting_model.proofs.Steps.{rows_at}
 use Rattle.forgetting_model.proofs.Tells.{delivered_inside, own_in, replica_of, version_in}
 use Rattle.causal_buffer.proofs.Placed.{same_at}
 use Rattle.replica_kept.specs.Held.{IsHeld}
+use Rattle.replica_kept.proofs.Matching.{stamps_all}
 use Rattle.replica_kept.specs.Merging.{IsBatchOf}
 use Rattle.replica_kept.specs.Sound.{AreKept, IsRow, IsSound, burden, max_burden}
-
--- lists with the same stamps
-stamps_all : {Op : Type 0} (P : Stamp → Type 0) (xs ys : List (Entry Op)) → map (λ e. e.stamp) xs ≡ map (λ e. e.stamp) ys → AllByRecursion (λ e. P e.stamp) ys → AllByRecursion (λ e. P e.stamp) xs
-stamps_all P [] ys is h = tt
-stamps_all P (x ∷ xs) [] is h = absurd (let g : x.stamp ∷ map (λ e. e.stamp) xs ≡ [] = is in cc)
-stamps_all P (x ∷ xs) (y ∷ ys) is h =
-    let head : x.stamp ≡ y.stamp = (let g : x.stamp ∷ map (λ e. e.stamp) xs ≡ y.stamp ∷ map (λ e. e.stamp) ys = is in cc) in
-    let tail : map (λ e. e.stamp) xs ≡ map (λ e. e.stamp) ys = (let g : x.stamp ∷ map (λ e. e.stamp) xs ≡ y.stamp ∷ map (λ e. e.stamp) ys = is in cc) in
-    (subst P (sym head) h.0, stamps_all P xs ys tail h.1)
 
 stamps_rise : {Op : Type 0} (xs ys : List (Entry Op)) → map (λ e. e.stamp) xs ≡ map (λ e. e.stamp) ys → IsRising ys → IsRising xs
 stamps_rise [] ys is h = tt
@@ -114,6 +107,14 @@ module _ {State Op : Type 0} (m : Meaning State Op) (law : IsLawful m) (n : ℕ)
     unfolding kept ledger
     stamps = kept_stamps m law n ts family r there
 
+    levels : map (λ e. m.level e.op) bare.woven.history ≡ map (λ e. m.level e.op) (filter (is_high m) (beyond (floor r) r.delivered))
+    unfolding kept ledger
+    levels = kept_levels m law n ts family r there
+
+    counts : length (beyond (floor r) r.delivered) + sum (floor r).at ≡ sum own.at
+    unfolding ledger
+    counts = log_counts m n ts family r there ∙ sym (ap (λ (k : Clock). sum k.at) truth.own)
+
     good : m.good_at own bare.woven.state
     unfolding kept ledger
     good = kept_good m law n ts family r there
@@ -160,6 +161,8 @@ module _ {State Op : Type 0} (m : Meaning State Op) (law : IsLawful m) (n : ℕ)
             rising = log_rises;
             apart = apart-filter (is_beyond (floor r)) r.delivered (rising_apart r.delivered (honest_part (operations ts) r.delivered family.honest.honest inside) sound.delivered_by_key);
           });
+          counted = counts;
+          forms = record { stamped = stamps; levels = levels };
           unstable = λ e c. (in_beyond (floor r) r.delivered e c).1;
           known = λ e c. d_knows m n ts family r there e (in_beyond (floor r) r.delivered e c).0;
           waiting = subst (λ (i : ℕ). AreKept m i r.waiting) (sym size) (record {

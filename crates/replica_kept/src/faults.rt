@@ -1,7 +1,7 @@
 ghost use Rattle.std.specs.Prelude.{◌≡◌, ◌↔◌, IfNone, IfSome, IsFalse, IsTrue};
 ghost use Rattle.std.specs.List.{All, Contains};
 ghost use Rattle.vector_clock.specs.Stamp.{IsStamp};
-ghost use Rattle.crdt_laws.specs.Sets.{AreApart, IsRising};
+ghost use Rattle.crdt_laws.specs.Sets.{AreApart, AreFormed, IsRising};
 ghost use Rattle.causal_buffer.specs.Buffer.{ArePlaces};
 ghost use Rattle.replica_kept.specs.Merging.{HasNoOther, HasOther, IsFirst, last_of};
 
@@ -39,6 +39,8 @@ pub(crate) fn last_of<Op>(member: u8, ops: &[Entry<Op>]) -> u32
 
 /// Whether the two are one operation: one stamp and one body.
 fn is_same<T: Tower>(tower: &T, a: &Entry<T::Op>, b: &Entry<T::Op>) -> bool
+    requires left { (T.meaning tower.now).well_formed a.now.op }
+    requires right { (T.meaning tower.now).well_formed b.now.op }
     ensures { IsTrue result ↔ (a.now ≡ b.now) }
 {
     a.stamp == b.stamp && tower.same_op(&a.op, &b.op)
@@ -49,6 +51,8 @@ fn is_found<T: Tower>(tower: &T, entries: &[Entry<T::Op>], e: &Entry<T::Op>) -> 
     requires stamp { IsStamp e.now.stamp }
     requires stamps { All (λ f. IsStamp f.stamp) entries.now }
     requires rising { IsRising entries.now }
+    requires form { (T.meaning tower.now).well_formed e.now.op }
+    requires forms { AreFormed (T.meaning tower.now) entries.now }
     ensures { IsTrue result → Contains entries.now e.now }
 {
     let at = place_of(entries, &e.stamp);
@@ -57,6 +61,8 @@ fn is_found<T: Tower>(tower: &T, entries: &[Entry<T::Op>], e: &Entry<T::Op>) -> 
 
 /// Whether another operation of its id is in the list.
 fn has_other<T: Tower>(tower: &T, entries: &[Entry<T::Op>], e: &Entry<T::Op>) -> bool
+    requires form { (T.meaning tower.now).well_formed e.now.op }
+    requires forms { AreFormed (T.meaning tower.now) entries.now }
     ensures forked { IsTrue result → HasOther entries.now e.now }
     ensures same { IsFalse result → HasNoOther entries.now e.now }
 {
@@ -79,6 +85,8 @@ pub(crate) fn is_forked_by_key<T: Tower>(
     requires stamps { All (λ f. IsStamp f.stamp) entries.now }
     requires rising { IsRising entries.now }
     requires apart { AreApart entries.now }
+    requires form { (T.meaning tower.now).well_formed e.now.op }
+    requires forms { AreFormed (T.meaning tower.now) entries.now }
     ensures forked { IsTrue result → HasOther entries.now e.now }
     ensures same { IsFalse result → HasNoOther entries.now e.now }
 {
@@ -92,7 +100,9 @@ pub(crate) fn is_forked_by_id<T: Tower>(
     places: &BTreeMap<Id, usize>,
     e: &Entry<T::Op>,
 ) -> bool
-    requires { ArePlaces places.now entries.now }
+    requires places { ArePlaces places.now entries.now }
+    requires form { (T.meaning tower.now).well_formed e.now.op }
+    requires forms { AreFormed (T.meaning tower.now) entries.now }
     ensures forked { IsTrue result → HasOther entries.now e.now }
     ensures same { IsFalse result → HasNoOther entries.now e.now }
 {

@@ -6,12 +6,13 @@ ghost use Rattle.crdt_laws.specs.Interleaved.{interleaved};
 ghost use Rattle.crdt_laws.specs.Sets.{IsRising};
 
 use crate::faults::{bad_op, is_forked_by_id, is_forked_by_key, last_of};
-use crate::parts::{advanced, copy_ops, count_beyond};
+use crate::floors::Floors;
 use crate::refusal::Refusal;
 use crate::replica::{Batch, Replica};
 use crate::rows::heard_all;
+use crate::weaving::weave_in;
 use causal_buffer::{Absorbed, absorb, fresh, places_of};
-use crdt_laws::{Entry, NoMemory, Ops, Tower, union};
+use crdt_laws::{Entry, NoMemory, Ops, Tower, copy_ops, union};
 use history_trim::Known;
 use std::alloc::Global;
 use std::collections::BTreeMap;
@@ -59,18 +60,19 @@ impl<T: Tower> Replica<T> {
     ghost use Rattle.vector_clock.specs.Clock.{covers};
     ghost use Rattle.vector_clock.specs.Stamp.{IsStamp, id_of};
     ghost use Rattle.crdt_laws.specs.Interleaved.{interleaved};
-    ghost use Rattle.crdt_laws.specs.Sets.{AreIssued, IsRising, beyond};
+    ghost use Rattle.crdt_laws.specs.Sets.{AreFormed, AreIssued, IsRising, beyond};
     ghost use Rattle.weave_core.specs.Deliver.{deliver, trim};
     ghost use Rattle.replica_model.specs.Replica.{meet_all};
     ghost use Rattle.forgetting_model.specs.Ledger.{own_row, raised};
     ghost use Rattle.forgetting_model.specs.Made.{kept_absorbed};
+    ghost use Rattle.forgetting_model.specs.Truth.{IsClockOf};
     ghost use Rattle.forgetting_model.specs.Turns.{AreNext, ledger_absorbed};
     ghost use Rattle.causal_buffer.specs.Buffer.{ArePlaces};
     ghost use Rattle.history_trim.specs.Rows.{AreRows, rows_of};
     ghost use Rattle.replica_kept.specs.Held.{IsHeld};
     ghost use Rattle.replica_kept.specs.Merging.{HasNoOther, HasOther, IsBatchOf, IsFaultless, IsFirst, IsMergeCause, MayAbsorb};
     ghost use Rattle.replica_kept.specs.Did.{merged_of};
-    ghost use Rattle.replica_kept.specs.Sound.{IsSameMember, IsSound, burden, max_burden, members};
+    ghost use Rattle.replica_kept.specs.Sound.{CoversNone, IsSameMember, IsSound, burden, max_burden, members};
     ghost use Rattle.replica_kept.specs.Steps.{IsGivenBack};
 
     /// Whether another operation of its id is kept or waits.
@@ -87,6 +89,7 @@ impl<T: Tower> Replica<T> {
         requires floor { floor.now ≡ meet_all self.now.ledger.known }
         requires places { ArePlaces places.now self.now.ledger.waiting }
         requires stamp { IsStamp e.now.stamp }
+        requires form { (T.meaning tower.now).well_formed e.now.op }
         ensures forked { IsTrue result → HasOther (self.now.ledger.log ++ self.now.ledger.waiting) e.now }
         ensures same { IsFalse result → HasNoOther (self.now.ledger.log ++ self.now.ledger.waiting) e.now }
     {
@@ -103,6 +106,7 @@ impl<T: Tower> Replica<T> {
         requires sound { IsSound (T.meaning tower.now) self.now }
         requires places { ArePlaces places.now self.now.ledger.waiting }
         requires stamps { All (λ e. IsStamp e.stamp) ops.now }
+        requires formed { AreFormed (T.meaning tower.now) ops.now }
         ensures forked { IfSome result (λ i. IsFirst (HasOther (self.now.ledger.log ++ self.now.ledger.waiting)) ops.now i) }
         ensures same { IfNone result (All (HasNoOther (self.now.ledger.log ++ self.now.ledger.waiting)) ops.now) }
     {
@@ -145,15 +149,15 @@ impl<T: Tower> Replica<T> {
         }
     }
 
-    /// How many operations would be kept or wait with this floor, once what is ready is in and the others are left to wait.
-    fn burden_with(&self, floor: &Clock, come: &Absorbed<T::Op>) -> usize
+    /// How many operations would be kept or wait with the later floor, once what is ready is in and the others are left to wait.
+    fn burden_with(&self, floors: &Floors, come: &Absorbed<T::Op>) -> usize
         requires kept { length self.now.ledger.log ≤ max_burden }
         requires come { length come.now.ready + length come.now.waiting < 2 ^ 40 }
-        ensures { result ≡ length (beyond floor.now self.now.ledger.log) + length (beyond floor.now come.now.ready) + length come.now.waiting }
+        requires log { CoversNone floors.now.before self.now.ledger.log }
+        requires ready { CoversNone floors.now.before come.now.ready }
+        ensures { result ≡ length (beyond floors.now.after self.now.ledger.log) + length (beyond floors.now.after come.now.ready) + length come.now.waiting }
     {
-        count_beyond(floor, self.log.as_slice())
-            + count_beyond(floor, come.ready.as_slice())
-            + come.waiting.len()
+        floors.count(self.log.as_slice()) + floors.count(come.ready.as_slice()) + come.waiting.len()
     }
 
     /// The replica with these rows, once what is ready is woven in. The operations that are in are those of the log, and of
@@ -162,6 +166,7 @@ impl<T: Tower> Replica<T> {
         self,
         alloc: Global,
         tower: &T,
+        floors: &Floors,
         known: Known,
         new: Ops<T::Op>,
         come: Absorbed<T::Op>,
@@ -169,10 +174,14 @@ impl<T: Tower> Replica<T> {
         requires sound { IsSound (T.meaning tower.now) self }
         requires known { AreRows known }
         requires one { known.n ≡ members self.ledger }
+        requires before { floors.now.before ≡ meet_all self.ledger.known }
+        requires after { floors.now.after ≡ meet_all (rows_of known) }
+        requires clock { IsClockOf known.n floors.now.after }
         requires issued { AreIssued (T.meaning tower.now) known.n come.ready }
         requires next { AreNext (own_row self.ledger) come.ready }
         requires rising { IsRising new }
         requires stamps { All (λ e. IsStamp e.stamp) new }
+        requires new { CoversNone (own_row self.ledger) new }
         ensures kept { IfOk result (λ r. let log = interleaved self.ledger.log (interleaved (filter (λ e. covers come.clock (id_of e.stamp)) self.ledger.waiting) (filter (λ e. covers come.clock (id_of e.stamp)) new)) in let floor = meet_all (rows_of known) in
             r ≡ record { ledger = record { doc = self.ledger.doc; me = known.me; log = beyond floor log; waiting = come.waiting; known = rows_of known }; woven = trim (T.meaning tower.now) (fold (deliver (T.meaning tower.now)) self.woven come.ready) floor }) }
         ensures held { IfOk result (λ r. IsHeld (T.meaning tower.now) (raised (own_row self.ledger) come.ready) r.woven) }
@@ -190,8 +199,16 @@ impl<T: Tower> Replica<T> {
             waiting: left,
             clock,
         } = come;
-        let log = logged(log, waiting, new, &clock)?;
-        advanced(alloc, tower, doc, known, woven, own, ready, log, left)
+        let woven = weave_in(alloc, tower, woven, &own, ready)?;
+        let woven = floors.trimmed(alloc, tower, woven)?;
+        let log = floors.kept(logged(log, waiting, new, &clock)?);
+        Ok(Replica {
+            doc,
+            known,
+            woven,
+            log,
+            waiting: left,
+        })
     }
 
     /// The replica after a batch that has no fault, or the replica as it was where too many operations would be kept or wait.
@@ -231,7 +248,11 @@ impl<T: Tower> Replica<T> {
             &come.clock,
             come.ready.as_slice(),
         );
-        let count = self.burden_with(&known.floor(), &come);
+        let floors = Floors {
+            before: self.floor(),
+            after: known.floor(),
+        };
+        let count = self.burden_with(&floors, &come);
         if count > 50_000 {
             return Ok(Err((self, Refusal::Full { count })));
         }
@@ -239,7 +260,7 @@ impl<T: Tower> Replica<T> {
             delivered: come.ready.len(),
             waiting: come.waiting.len(),
         };
-        let replica = self.after(alloc, tower, known, new, come)?;
+        let replica = self.after(alloc, tower, &floors, known, new, come)?;
         Ok(Ok((replica, merged)))
     }
 
@@ -254,7 +275,8 @@ impl<T: Tower> Replica<T> {
     /// operations would be kept or wait. An operation that the floor covers is no fork, since nothing of it is kept.
     /// `NoMemory` may come besides, and then nothing comes back.
     ///
-    /// It takes time in proportion to the batch, what waits and what comes in, with one pass over what is kept.
+    /// It takes time in proportion to the batch, what waits and what comes in, with one pass over what is kept where the floor
+    /// rises.
     pub fn merge(
         self,
         alloc: Global,

@@ -27,7 +27,7 @@ use Rattle.replica_model.proofs.Versions.{version_has, version_knows}
 
 -- numbers in a row
 
-in_range : (a n q : ℕ) → Contains (range_with_len a n) q → (a ≤ q) × (q < a + n)
+pub in_range : (a n q : ℕ) → Contains (range_with_len a n) q → (a ≤ q) × (q < a + n)
 in_range a zero q c = let l : c.0 < 0 = c.1 in absurd (omega arith)
 in_range a (suc n) q c =
     elim (Contains-cases a (range_with_len (a + 1) n) q c) [
@@ -35,7 +35,7 @@ in_range a (suc n) q c =
       | inr j ↦ (let f = in_range (a + 1) n q j in (omega (arith, f.0), omega (arith, f.1)))
     ]
 
-range_has : (a n q : ℕ) → a ≤ q → q < a + n → Contains (range_with_len a n) q
+pub range_has : (a n q : ℕ) → a ≤ q → q < a + n → Contains (range_with_len a n) q
 range_has a zero q h k = absurd (omega arith)
 range_has a (suc n) q h k =
     elim (cases_eq a q) [
@@ -43,7 +43,7 @@ range_has a (suc n) q h k =
       | inr d ↦ Contains-more a (range_with_len (a + 1) n) q (range_has (a + 1) n q (omega arith) (omega arith))
     ]
 
-range_distinct : (a n : ℕ) → IsDistinct nat_eq (range_with_len a n)
+pub range_distinct : (a n : ℕ) → IsDistinct nat_eq (range_with_len a n)
 range_distinct a zero = none_distinct
 range_distinct a (suc n) =
     IsDistinct-cons nat_eq a (range_with_len (a + 1) n)
@@ -52,7 +52,7 @@ range_distinct a (suc n) =
 
 -- what a map gives
 
-in_map : {X : Type 0} (f : X → ℕ) (xs : List X) (y : ℕ) → Contains (map f xs) y → (x : X) × Contains xs x × (f x ≡ y)
+pub in_map : {X : Type 0} (f : X → ℕ) (xs : List X) (y : ℕ) → Contains (map f xs) y → (x : X) × Contains xs x × (f x ≡ y)
 in_map f [] y c = let l : c.0 < 0 = c.1 in absurd (omega arith)
 in_map f (a ∷ xs) y c =
     elim (Contains-cases (f a) (map f xs) y c) [
@@ -61,10 +61,10 @@ in_map f (a ∷ xs) y c =
     ]
 
 -- the sequence number of an operation
-abbrev seq_of : {Op : Type 0} → Entry Op → ℕ
+abbrev pub seq_of : {Op : Type 0} → Entry Op → ℕ
 seq_of e = count e.stamp.clock e.stamp.member
 
-distinct_seqs : {Op : Type 0} (m : ℕ) (ys : List (Entry Op)) → AreApart ys → ((e : Entry Op) → Contains ys e → e.stamp.member ≡ m) → IsDistinct nat_eq (map seq_of ys)
+pub distinct_seqs : {Op : Type 0} (m : ℕ) (ys : List (Entry Op)) → AreApart ys → ((e : Entry Op) → Contains ys e → e.stamp.member ≡ m) → IsDistinct nat_eq (map seq_of ys)
 distinct_seqs m [] apart h = none_distinct
 distinct_seqs {Op} m (a ∷ ys) apart h =
     IsDistinct-cons nat_eq (seq_of a) (map seq_of ys)

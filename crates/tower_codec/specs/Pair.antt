@@ -1,9 +1,9 @@
 -- The bytes of pairs: a tag and the operation of a side, and the state of the left side before that of the right one.
-use Rattle.std.specs.Prelude.{◌≤◌, ◌⊎◌, max}
-use Rattle.std.proofs.Common.{refl, inl, inr, arith}
+use Rattle.std.specs.Prelude.{◌↔◌, ◌⊎◌, Bool, IsTrue}
+use Rattle.std.proofs.Common.{refl, inl, inr}
 use Rattle.vector_clock.specs.declared.clock.Clock.{Clock}
 use Rattle.vector_clock.specs.declared.stamp.Stamp.{Stamp}
-use Rattle.crdt_laws.specs.Tower.{Meaning, IsStampOf}
+use Rattle.crdt_laws.specs.Tower.{Meaning, IsStampOf, IsWithin}
 use Rattle.direct_product.specs.declared.pair.Both.{Both}
 use Rattle.direct_product.specs.declared.pair.PairOp.{PairOp}
 use Rattle.direct_product.specs.declared.pair.PairOp.TheVariants.{Left, Right}
@@ -15,6 +15,7 @@ use Rattle.wire_core.specs.InOrder.{tagged_in_order}
 use Rattle.wire_core.specs.Steady.{IsSteady, chain_steady, made_steady}
 use Rattle.wire_core.specs.Good.{AreGood}
 use Rattle.wire_core.specs.Writes.{Writes}
+use Rattle.wire_core.specs.Stands.{Tells}
 
 abbrev pub pair_split : {L R : Type 0} → PairOp L R → L ⊎ R
 pair_split (Left x) = inl x
@@ -33,13 +34,27 @@ pub pair_op_in_order : {L R : Type 0} (left : Grammar L) (right : Grammar R) →
 pair_op_in_order left right one two = tagged_in_order Left Right pair_split left right one two
 
 module _ {S T L R : Type 0} (m : Meaning S L) (w : Meaning T R) (left : Grammar L) (right : Grammar R) where
-  each_allowed : Writes m left → Writes w right → (r : Rules) (p : Stamp) (x : PairOp L R) → max m.top w.top ≤ 255 → IsStampOf r.members p
+  each_allowed : Writes m left → Writes w right → (r : Rules) (p : Stamp) (x : PairOp L R) → IsStampOf r.members p
       → (pair_meaning m w).valid p x → (pair_op_grammar left right).allows r x
-  each_allowed one two r p (Left x) top stamp valid = one.each r p x (omega arith) stamp valid
-  each_allowed one two r p (Right y) top stamp valid = two.each r p y (omega arith) stamp valid
+  each_allowed one two r p (Left x) stamp valid = one.each r p x stamp valid
+  each_allowed one two r p (Right y) stamp valid = two.each r p y stamp valid
 
   pub pair_op_writes : Writes m left → Writes w right → Writes (pair_meaning m w) (pair_op_grammar left right)
   pair_op_writes one two = record { each = each_allowed one two }
+
+-- each side tells which of its operations may stand at a stamp
+abbrev pub pair_may_stand : {L R : Type 0} → (Stamp → L → Bool) → (Stamp → R → Bool) → Stamp → PairOp L R → Bool
+pair_may_stand left right p (Left x) = left p x
+pair_may_stand left right p (Right y) = right p y
+
+module _ {S T L R : Type 0} (m : Meaning S L) (w : Meaning T R) (left : Grammar L) (right : Grammar R) (lefts : Stamp → L → Bool) (rights : Stamp → R → Bool) where
+  each_told : Tells m left lefts → Tells w right rights → (r : Rules) (p : Stamp) (x : PairOp L R) → IsStampOf r.members p → IsWithin p
+      → (pair_op_grammar left right).allows r x → IsTrue (pair_may_stand lefts rights p x) ↔ (pair_meaning m w).valid p x
+  each_told one two r p (Left x) stamp within allowed = one.each r p x stamp within allowed
+  each_told one two r p (Right y) stamp within allowed = two.each r p y stamp within allowed
+
+  pub pair_tells : Tells m left lefts → Tells w right rights → Tells (pair_meaning m w) (pair_op_grammar left right) (pair_may_stand lefts rights)
+  pair_tells one two = record { each = each_told one two }
 
 -- ---- states
 

@@ -12,9 +12,11 @@ pub struct PairCoder<L, R> {
 }
 
 impl<A: Tower, B: Tower, L: Coder<A>, R: Coder<B>> Coder<Pair<A, B>> for PairCoder<L, R> {
-    ghost use Rattle.tower_codec.specs.Pair.{both_fit, pair_good, pair_op_exact, pair_op_grammar, pair_op_in_order, pair_op_writes, pair_states, pair_states_exact, pair_states_steady};
+    ghost use Rattle.tower_codec.specs.Pair.{both_fit, pair_good, pair_may_stand, pair_tells, pair_op_exact, pair_op_grammar, pair_op_in_order, pair_op_writes, pair_states, pair_states_exact, pair_states_steady};
 
     ghost op_grammar = { λ c t. pair_op_grammar (L.op_grammar c.left t.left) (R.op_grammar c.right t.right) };
+
+    ghost may_stand = { λ c t. pair_may_stand (L.may_stand c.left t.left) (R.may_stand c.right t.right) };
 
     ghost state_grammar = { λ c t. pair_states (L.state_grammar c.left t.left) (R.state_grammar c.right t.right) };
 
@@ -79,6 +81,8 @@ impl<A: Tower, B: Tower, L: Coder<A>, R: Coder<B>> Coder<Pair<A, B>> for PairCod
     ghost op_in_order = { λ c t. pair_op_in_order (L.op_grammar c.left t.left) (R.op_grammar c.right t.right) (L.op_in_order c.left t.left) (R.op_in_order c.right t.right) };
 
     ghost op_writes = { λ c t. pair_op_writes (A.meaning t.left) (B.meaning t.right) (L.op_grammar c.left t.left) (R.op_grammar c.right t.right) (L.op_writes c.left t.left) (R.op_writes c.right t.right) };
+
+    ghost op_tells = { λ c t. pair_tells (A.meaning t.left) (B.meaning t.right) (L.op_grammar c.left t.left) (R.op_grammar c.right t.right) (L.may_stand c.left t.left) (R.may_stand c.right t.right) (L.op_tells c.left t.left) (R.op_tells c.right t.right) };
 
     ghost state_exact = { λ c t d. pair_states_exact (L.state_grammar c.left t.left) (R.state_grammar c.right t.right) d (L.state_exact c.left t.left d) (R.state_exact c.right t.right d) };
 

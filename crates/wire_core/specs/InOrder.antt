@@ -167,7 +167,7 @@ unfolding number
 number_is_field k = record { each = λ i f e. fixed_field (ltb (length i.rest) k) i.at (big_number k i.rest) (behind k i) f e }
 
 module _ {C : Type 0} where
-  pick_from : (b c : Bool) (p q : Outcome C) (at : ℕ) → IsFrom at p → IsFrom at q → IsFrom at (cond b p (cond c q (Stop (BadAt at))))
+  pub pick_from : (b c : Bool) (p q : Outcome C) (at : ℕ) → IsFrom at p → IsFrom at q → IsFrom at (cond b p (cond c q (Stop (BadAt at))))
   pick_from true c p q at h k = h
   pick_from false true p q at h k = k
   pick_from false false p q at h k = omega arith

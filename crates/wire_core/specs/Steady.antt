@@ -1,8 +1,8 @@
 -- What holds of the faults of states too, of which some are tested when several fields of theirs are read.
-use Rattle.std.proofs.Common.{◌≡◌, ℕ, zero, suc, ◌+◌, ◌-◌, ◌≤◌, Bool, true, false, cond, List, [], ◌∷◌, ◌++◌, refl, sym, ap, subst, arith}
-use Rattle.wire_core.specs.Reading.{Rules, Input, ShortAt, BadAt, Outcome, Got, Stop, ◌>>=◌, Grammar, number, only, ending, read_each, read_all, for_all, listed, chain, made}
+use Rattle.std.proofs.Common.{◌≡◌, ℕ, zero, suc, ◌+◌, ◌-◌, ◌≤◌, ◌⊎◌, Bool, true, false, cond, eqb, List, [], ◌∷◌, ◌++◌, refl, sym, ap, subst, arith}
+use Rattle.wire_core.specs.Reading.{Rules, Input, ShortAt, BadAt, Outcome, Got, Stop, ◌>>=◌, Grammar, number, only, ending, read_each, read_all, for_all, listed, chain, made, tagged}
 use Rattle.wire_core.specs.Faults.{and_more, IsFrom, Stays, IsInOrder}
-use Rattle.wire_core.specs.InOrder.{from_bind, number_in_order}
+use Rattle.wire_core.specs.InOrder.{from_bind, from_later, number_in_order, pick_from}
 
 module _ {A : Type 0} where
   -- where more bytes stand behind, a value stays, and so does what is not allowed
@@ -142,3 +142,36 @@ module _ {T A : Type 0} (g : T → Grammar A) (h : (t : T) → IsSteady (g t)) w
 
   pub for_all_steady : (ts : List T) → IsSteady (for_all g ts)
   for_all_steady ts = record { onward = all_from ts; keeps = all_keeps ts }
+
+module _ {A B C : Type 0} (left : A → C) (right : B → C) (split : C → A ⊎ B) (a : Grammar A) (b : Grammar B) (one : IsSteady a) (two : IsSteady b) where
+  abbrev arms : ℕ → ℕ → Input → Outcome C
+  arms at t j = cond (eqb t 0) (a.read j >>= λ x k. Got (left x) k) (cond (eqb t 1) (b.read j >>= λ y k. Got (right y) k) (Stop (BadAt at)))
+
+  pick_keeps : (x y : Bool) (p q o u : Outcome C) (at : ℕ) (tail : List ℕ) → Keeps p tail o → Keeps q tail u
+      → Keeps (cond x p (cond y q (Stop (BadAt at)))) tail (cond x o (cond y u (Stop (BadAt at))))
+  pick_keeps true y p q o u at tail h k = h
+  pick_keeps false true p q o u at tail h k = k
+  pick_keeps false false p q o u at tail h k = refl
+
+  arms_from : (at t : ℕ) (j : Input) → at ≤ j.at → IsFrom at (arms at t j)
+  arms_from at t j le = pick_from (eqb t 0) (eqb t 1) (a.read j >>= λ x k. Got (left x) k) (b.read j >>= λ y k. Got (right y) k) at
+      (from_later at j.at (a.read j >>= λ x k. Got (left x) k) le (from_bind (λ x k. Got (left x) k) j.at (a.read j) (one.onward j) (λ x k. omega arith)))
+      (from_later at j.at (b.read j >>= λ y k. Got (right y) k) le (from_bind (λ y k. Got (right y) k) j.at (b.read j) (two.onward j) (λ y k. omega arith)))
+
+  arms_keep : (at t : ℕ) (j : Input) (tail : List ℕ) → Keeps (arms at t j) tail (arms at t (and_more j tail))
+  arms_keep at t j tail = pick_keeps (eqb t 0) (eqb t 1) (a.read j >>= λ x k. Got (left x) k) (b.read j >>= λ y k. Got (right y) k)
+      (a.read (and_more j tail) >>= λ x k. Got (left x) k) (b.read (and_more j tail) >>= λ y k. Got (right y) k) at tail
+      (keeps_bind (λ x k. Got (left x) k) (a.read j) (a.read (and_more j tail)) tail (one.keeps j tail) (λ x k. refl))
+      (keeps_bind (λ y k. Got (right y) k) (b.read j) (b.read (and_more j tail)) tail (two.keeps j tail) (λ y k. refl))
+
+  tag_from : (at : ℕ) (o : Outcome ℕ) → IsFrom at o → IsFrom at (o >>= arms at)
+  tag_from at (Got t j) h = arms_from at t j h
+  tag_from at (Stop f) h = h
+
+  pub tagged_steady : IsSteady (tagged left right split a b)
+  tagged_steady =
+      let tag = in_order_steady (number 1) (number_in_order 1) in
+      record {
+        onward = λ i. tag_from i.at ((number 1).read i) (tag.onward i);
+        keeps = λ i tail. keeps_bind (arms i.at) ((number 1).read i) ((number 1).read (and_more i tail)) tail (tag.keeps i tail) (λ t j. arms_keep i.at t j tail);
+      }

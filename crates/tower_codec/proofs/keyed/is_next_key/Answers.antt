@@ -1,6 +1,6 @@
 use Rattle.std.proofs.Common.{rules, sym}
 use Rattle.std.proofs.lemmas.Bool.{ltb-true}
-use Rattle.tower_codec.proofs.Last.{last_is}
+use Rattle.wire_core.proofs.Last.{last_is}
 use Rattle.tower_codec.proofs.keyed.is_next_key.Goals as goal
 
 pub returns-in-Some : goal.returns-in-Some

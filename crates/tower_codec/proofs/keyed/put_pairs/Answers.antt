@@ -3,7 +3,8 @@ use Rattle.wire_core.specs.Calls.{rules_of}
 use Rattle.wire_core.specs.SmallExact.{map_key_allowed}
 use Rattle.map_crdt.specs.Keyed.{IsKey}
 use Rattle.tower_codec.specs.Keyed.{pair_grammar}
-use Rattle.tower_codec.proofs.States.{element, one_more, pair_put, rules_stay}
+use Rattle.wire_core.specs.Listed.{element, one_more, rules_stay}
+use Rattle.tower_codec.proofs.States.{pair_put}
 use Rattle.tower_codec.proofs.keyed.put_pairs.Goals as goal
 
 pub put_map_key-requires : goal.put_map_key-requires

@@ -2,7 +2,8 @@ use Rattle.std.proofs.Common.{◌≡◌, ◌⊎◌, length, inl, inr, ap, subst,
 use Rattle.std.specs.Slice.Iter.{iter_rest}
 use Rattle.wire_core.specs.Reading.{spell_all}
 use Rattle.wire_core.specs.Calls.{rules_of, wrote}
-use Rattle.tower_codec.proofs.States.{good_more, rules_stay, states_end, states_more}
+use Rattle.wire_core.specs.Listed.{rules_stay}
+use Rattle.tower_codec.proofs.States.{good_more, states_end, states_more}
 use Rattle.tower_codec.proofs.row.put_states.Goals as goal
 
 pub put_state-requires : goal.put_state-requires

@@ -1,11 +1,22 @@
-use Rattle.std.proofs.Common.{◌≡◌, ◌∙◌, true, false, ap, ap₂, sym}
+use Rattle.std.proofs.Common.{◌≡◌, ◌∙◌, true, false, ap, ap₂, sym, length}
 use Rattle.vector_clock.specs.Clock.{covers}
 use Rattle.vector_clock.specs.Stamp.{id_of}
 use Rattle.replica_model.specs.Replica.{meet_all}
 use Rattle.forgetting_model.specs.Kept.{Kept}
 use Rattle.forgetting_model.specs.Ledger.{own_row}
+use Rattle.replica_kept.proofs.MergeCall.{issued_formed}
 use Rattle.replica_kept.proofs.Forks.{forgotten, forked_in_log, forked_waiting, same_in_log, same_waiting}
 use Rattle.replica_kept.proofs.replica.Replica.is_forked.Goals as goal
+
+pub is_forked_by_key-requires-clause-forms : goal.is_forked_by_key-requires-clause-forms
+is_forked_by_key-requires-clause-forms g c =
+    let k = c.args.self.now in
+    issued_formed (g.T.Tower.meaning c.args.tower.now) (g.met.T.Tower.lawful c.args.tower.now) (length k.ledger.known) k.ledger.log c.as_slice.result.now c.requires.sound.log.issued (c.as_slice.ensures ∙ ap (λ (z : Kept _ _). z.ledger.log) c.self.view_is)
+
+pub is_forked_by_id-requires-clause-forms : goal.is_forked_by_id-requires-clause-forms
+is_forked_by_id-requires-clause-forms g c =
+    let k = c.args.self.now in
+    issued_formed (g.T.Tower.meaning c.args.tower.now) (g.met.T.Tower.lawful c.args.tower.now) (length k.ledger.known) k.ledger.waiting c.as_slice-else-covers.result.now c.requires.sound.waiting.issued (c.as_slice-else-covers.ensures ∙ ap (λ (z : Kept _ _). z.ledger.waiting) c.self.view_is)
 
 pub returns-then-not-covers-clause-forked : goal.returns-then-not-covers-clause-forked
 returns-then-not-covers-clause-forked g c = λ r.

@@ -2,7 +2,7 @@ use Rattle.std.proofs.Common.{◌≡◌, refl, rules, subst}
 use Rattle.wire_core.specs.Reading.{listed}
 use Rattle.wire_core.specs.Calls.{rules_of, wrote}
 use Rattle.tower_codec.specs.Keyed.{pair_grammar}
-use Rattle.tower_codec.proofs.States.{listed_put, on_ok}
+use Rattle.wire_core.specs.Listed.{listed_put, on_ok}
 use Rattle.tower_codec.proofs.keyed.KeyedCoderCoderKeyed.put_state.Goals as goal
 
 pub returns : goal.returns

@@ -1,5 +1,5 @@
 use Rattle.std.proofs.Common.{sym, ap, subst}
-use Rattle.tower_codec.proofs.States.{rules_stay}
+use Rattle.wire_core.specs.Listed.{rules_stay}
 use Rattle.tower_codec.proofs.pair.PairCoderCoderPair.put_state.Goals as goal
 
 pub put_state-requires-2 : goal.put_state-requires-2

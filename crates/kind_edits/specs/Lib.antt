@@ -1,0 +1,11 @@
+pub mod Accepted
+pub mod FaultText
+pub mod FlagEdit
+pub mod KeyEdit
+pub mod NameEdit
+pub mod NumberEdit
+pub mod Rules
+pub mod Shown
+pub mod Spelled
+pub mod TextEdit
+pub mod Words
