@@ -1,12 +1,11 @@
 -- The tower of each schema is lawful: its fields are, and settling changes nothing that is shown of them.
 use Rattle.std.specs.Prelude.{◌≡◌, ℕ, List, [], ◌∷◌}
 use Rattle.std.proofs.Common.{ap, refl, ◌∙◌}
-use Rattle.serde_json.specs.Data.{Data, Members, no_members, object, put}
+use Rattle.serde_json.specs.Data.{Members, no_members, object, put}
 use Rattle.vector_clock.specs.declared.clock.Clock.{Clock}
-use Rattle.crdt_laws.specs.Tower.{Meaning, IsLawful}
+use Rattle.crdt_laws.specs.Tower.{IsLawful}
 use Rattle.direct_product.specs.Row.{row_meaning, settle_all}
 use Rattle.direct_product.specs.RowLaws.{row_lawful}
-use Rattle.reset_products.specs.Observed.{Logged}
 use Rattle.reset_products.specs.ObservedLaws.{value-settle}
 use Rattle.doc_schema.specs.declared.kind.Field.{Field}
 use Rattle.doc_schema.specs.declared.kind.Kind.{Kind}
@@ -14,11 +13,12 @@ use Rattle.doc_schema.specs.declared.kind.Reset.{Reset}
 use Rattle.doc_schema.specs.declared.kind.Reset.TheVariants.{Never, Winning, Observed}
 use Rattle.doc_schema.specs.Schema.{SchemaParts}
 use Rattle.doc_tower.specs.declared.either.Either.TheVariants.{Left, Right}
-use Rattle.doc_tower.specs.Document.{DocOp, DocState, doc_meaning, rows_meaning}
-use Rattle.doc_tower.specs.Fields.{FieldState, field_meaning, reset_meaning}
+use Rattle.doc_tower.specs.Document.{doc_meaning, rows_meaning}
+use Rattle.doc_tower.specs.Fields.{FieldState, field_meaning}
 use Rattle.doc_tower.specs.FieldLaws.{field_lawful, winning_lawful}
 use Rattle.doc_tower.specs.KindLaws.{kind_lawful, kind_plain}
-use Rattle.doc_tower.specs.Kinds.{KindOp, KindState, kind_meaning}
+use Rattle.doc_tower.specs.declared.kinds.KindState.{KindState}
+use Rattle.doc_tower.specs.Kinds.{kind_meaning}
 use Rattle.doc_tower.specs.Reshown.{reshown_lawful}
 use Rattle.doc_tower.specs.Shown.{field_data, field_members, fields_data, kind_data}
 

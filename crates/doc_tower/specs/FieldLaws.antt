@@ -14,7 +14,9 @@ use Rattle.doc_schema.specs.declared.kind.Reset.TheVariants.{Never, Winning, Obs
 use Rattle.doc_tower.specs.EitherLaws.{left_lawful, right_lawful}
 use Rattle.doc_tower.specs.Fields.{field_meaning, reset_meaning}
 use Rattle.doc_tower.specs.KindLaws.{kind_lawful, kind_plain}
-use Rattle.doc_tower.specs.Kinds.{KindOp, KindState, kind_meaning}
+use Rattle.doc_tower.specs.declared.kinds.KindOp.{KindOp}
+use Rattle.doc_tower.specs.declared.kinds.KindState.{KindState}
+use Rattle.doc_tower.specs.Kinds.{kind_meaning}
 
 pub winning_lawful : {S O : Type 0} (m : Meaning S O) → IsLawful m → IsLawful (winning_meaning m)
 winning_lawful m law = stack_lawful (maybe_meaning m) (maybe_lawful m law) (reset_action m) (reset_lawful m law)

@@ -1,5 +1,4 @@
 -- What the fields of a document mean as towers: each is a kind, without a reset, with a winning one, or with an observed one.
-use Rattle.std.specs.Prelude.{List}
 use Rattle.crdt_laws.specs.Tower.{Meaning}
 use Rattle.reset_products.specs.declared.observed.ObservedOp.{ObservedOp}
 use Rattle.reset_products.specs.Observed.{Logged, observed_meaning}
@@ -9,7 +8,9 @@ use Rattle.doc_schema.specs.declared.kind.Reset.{Reset}
 use Rattle.doc_schema.specs.declared.kind.Reset.TheVariants.{Never, Winning, Observed}
 use Rattle.doc_tower.specs.declared.either.Either.{Either}
 use Rattle.doc_tower.specs.Either.{left_meaning, right_meaning}
-use Rattle.doc_tower.specs.Kinds.{KindOp, KindState, kind_meaning}
+use Rattle.doc_tower.specs.declared.kinds.KindOp.{KindOp}
+use Rattle.doc_tower.specs.declared.kinds.KindState.{KindState}
+use Rattle.doc_tower.specs.Kinds.{kind_meaning}
 
 abbrev pub FieldState : Type 0
 FieldState = Either KindState (Either KindState (Logged KindState KindOp))

@@ -23,6 +23,8 @@ use Rattle.rich_text.specs.Over.{rich_meaning}
 use Rattle.doc_schema.specs.declared.kind.Kind.{Kind}
 use Rattle.doc_schema.specs.declared.kind.Kind.TheVariants as kind
 use Rattle.doc_tower.specs.declared.either.Either.{Either}
+use Rattle.doc_tower.specs.declared.kinds.KindOp.{KindOp}
+use Rattle.doc_tower.specs.declared.kinds.KindState.{KindState}
 use Rattle.doc_tower.specs.Either.{left_meaning, right_meaning}
 
 -- ---- States and operations
@@ -49,11 +51,11 @@ abbrev pub LastOps : Type 0
 LastOps = Either (Either ℕ (List ℕ)) (Either (List ℕ) (Either TextOp MapOps))
 
 -- of all these, and of rich text
-abbrev pub KindState : Type 0
-KindState = Either (Either FirstStates LastStates) (List RichCell)
+abbrev pub AllStates : Type 0
+AllStates = Either (Either FirstStates LastStates) (List RichCell)
 
-abbrev pub KindOp : Type 0
-KindOp = Either (Either FirstOps LastOps) (StackOp RichOp MarkRange)
+abbrev pub AllOps : Type 0
+AllOps = Either (Either FirstOps LastOps) (StackOp RichOp MarkRange)
 
 -- ---- Kinds
 
@@ -61,15 +63,38 @@ KindOp = Either (Either FirstOps LastOps) (StackOp RichOp MarkRange)
 abbrev pub choice_size : List (List ℕ) → ℕ
 choice_size values = max 2 (min 8 (length values))
 
+-- the kind as an arm of all
+abbrev pub arm_meaning : Kind → Meaning AllStates AllOps
+arm_meaning (kind.Number m) = left_meaning (left_meaning (left_meaning (left_meaning (number_meaning m))))
+arm_meaning kind.OnFlag = left_meaning (left_meaning (left_meaning (right_meaning (table_meaning on_table))))
+arm_meaning kind.OffFlag = left_meaning (left_meaning (right_meaning (left_meaning (table_meaning off_table))))
+arm_meaning (kind.Choice values) = left_meaning (left_meaning (right_meaning (right_meaning (ladder_meaning (choice_size values)))))
+arm_meaning (kind.Table t states ops) = left_meaning (right_meaning (left_meaning (left_meaning (table_meaning t.table))))
+arm_meaning kind.Latest = left_meaning (right_meaning (left_meaning (right_meaning latest_meaning)))
+arm_meaning kind.Several = left_meaning (right_meaning (right_meaning (left_meaning several_meaning)))
+arm_meaning kind.Text = left_meaning (right_meaning (right_meaning (right_meaning (left_meaning text_meaning))))
+arm_meaning (kind.Tally m) = left_meaning (right_meaning (right_meaning (right_meaning (right_meaning (left_meaning (keyed_meaning (number_meaning m)))))))
+arm_meaning kind.Entries = left_meaning (right_meaning (right_meaning (right_meaning (right_meaning (right_meaning (keyed_meaning latest_meaning))))))
+arm_meaning (kind.Rich marks) = right_meaning (rich_meaning (length marks))
+
+-- a tower of all kinds, whose states and operations are those of the type of their own
+abbrev pub sealed : Meaning AllStates AllOps → Meaning KindState KindOp
+sealed m = record {
+  top = m.top;
+  level = λ x. m.level x.arm;
+  well_formed = λ x. m.well_formed x.arm;
+  valid = λ p x. m.valid p x.arm;
+  init = record { arm = m.init };
+  apply = λ s p x. record { arm = m.apply s.arm p x.arm };
+  act = λ y x. record { arm = m.act y.arm x.arm };
+  settle = λ s k. record { arm = m.settle s.arm k };
+  show = λ s. m.show s.arm;
+  good = λ n s. m.good n s.arm;
+  good_at = λ d s. m.good_at d s.arm;
+  holds = λ s p. m.holds s.arm p;
+  sparing = m.sparing;
+  plain = m.plain;
+}
+
 abbrev pub kind_meaning : Kind → Meaning KindState KindOp
-kind_meaning (kind.Number m) = left_meaning (left_meaning (left_meaning (left_meaning (number_meaning m))))
-kind_meaning kind.OnFlag = left_meaning (left_meaning (left_meaning (right_meaning (table_meaning on_table))))
-kind_meaning kind.OffFlag = left_meaning (left_meaning (right_meaning (left_meaning (table_meaning off_table))))
-kind_meaning (kind.Choice values) = left_meaning (left_meaning (right_meaning (right_meaning (ladder_meaning (choice_size values)))))
-kind_meaning (kind.Table t states ops) = left_meaning (right_meaning (left_meaning (left_meaning (table_meaning t.table))))
-kind_meaning kind.Latest = left_meaning (right_meaning (left_meaning (right_meaning latest_meaning)))
-kind_meaning kind.Several = left_meaning (right_meaning (right_meaning (left_meaning several_meaning)))
-kind_meaning kind.Text = left_meaning (right_meaning (right_meaning (right_meaning (left_meaning text_meaning))))
-kind_meaning (kind.Tally m) = left_meaning (right_meaning (right_meaning (right_meaning (right_meaning (left_meaning (keyed_meaning (number_meaning m)))))))
-kind_meaning kind.Entries = left_meaning (right_meaning (right_meaning (right_meaning (right_meaning (right_meaning (keyed_meaning latest_meaning))))))
-kind_meaning (kind.Rich marks) = right_meaning (rich_meaning (length marks))
+kind_meaning k = sealed (arm_meaning k)

@@ -25,6 +25,7 @@ use Rattle.doc_schema.specs.declared.kind.Reset.{Reset}
 use Rattle.doc_schema.specs.declared.kind.Reset.TheVariants as reset
 use Rattle.doc_tower.specs.declared.either.Either.{Either}
 use Rattle.doc_tower.specs.declared.either.Either.TheVariants.{Left, Right}
+use Rattle.doc_tower.specs.declared.kinds.KindTower.{KindTower}
 use Rattle.doc_tower.specs.Kinds.{choice_size}
 
 -- what the tower of a kind was made from
@@ -72,32 +73,35 @@ field_shape f = shaped (kind_shape f.kind) f.reset
 
 -- ---- Of towers
 
--- the tower of a kind, with these towers of numbers and of rich text
-abbrev pub KindTower : Type 0 → Type 0 → Type 0
-KindTower N R =
+-- one of all kinds, with these towers of numbers and of rich text
+abbrev pub AllKinds : Type 0 → Type 0 → Type 0
+AllKinds N R =
     Either (Either (Either (Either N (Fixed 2 3)) (Either (Fixed 2 3) Choice))
     (Either (Either TableTower Latest) (Either Several (Either Text (Either (Keyed N) (Keyed Latest)))))) R
 
-abbrev pub tower_shape : {NS NL NH RS RL RH : Type 0} {nt : _} {na : _} {rt : _} {ra : _}
-    → KindTower (Stack Add Mul NS NL NH nt na) (Stack MarkedText MarkOver RS RL RH rt ra) → KindShape
-tower_shape (Left (Left (Left (Left t)))) = numbers t.low.modulus t.high.modulus
-tower_shape (Left (Left (Left (Right t)))) = on_flag (fixed_table 2 t.level t.next t.act)
-tower_shape (Left (Left (Right (Left t)))) = off_flag (fixed_table 2 t.level t.next t.act)
-tower_shape (Left (Left (Right (Right t)))) = choice (size_of t)
-tower_shape (Left (Right (Left (Left t)))) = table t.table.table
-tower_shape (Left (Right (Left (Right t)))) = latest
-tower_shape (Left (Right (Right (Left t)))) = several
-tower_shape (Left (Right (Right (Right (Left t))))) = text
-tower_shape (Left (Right (Right (Right (Right (Left t)))))) = tally t.part.low.modulus t.part.high.modulus
-tower_shape (Left (Right (Right (Right (Right (Right t)))))) = entries
-tower_shape (Right t) = rich t.low.marks t.high.marks
+abbrev pub arm_shape : {NS NL NH RS RL RH : Type 0} {nt : _} {na : _} {rt : _} {ra : _}
+    → AllKinds (Stack Add Mul NS NL NH nt na) (Stack MarkedText MarkOver RS RL RH rt ra) → KindShape
+arm_shape (Left (Left (Left (Left t)))) = numbers t.low.modulus t.high.modulus
+arm_shape (Left (Left (Left (Right t)))) = on_flag (fixed_table 2 t.level t.next t.act)
+arm_shape (Left (Left (Right (Left t)))) = off_flag (fixed_table 2 t.level t.next t.act)
+arm_shape (Left (Left (Right (Right t)))) = choice (size_of t)
+arm_shape (Left (Right (Left (Left t)))) = table t.table.table
+arm_shape (Left (Right (Left (Right t)))) = latest
+arm_shape (Left (Right (Right (Left t)))) = several
+arm_shape (Left (Right (Right (Right (Left t))))) = text
+arm_shape (Left (Right (Right (Right (Right (Left t)))))) = tally t.part.low.modulus t.part.high.modulus
+arm_shape (Left (Right (Right (Right (Right (Right t)))))) = entries
+arm_shape (Right t) = rich t.low.marks t.high.marks
 
--- the tower of a field, over the towers of kinds
-abbrev pub FieldTower : Type 0 → Type 0 → Type 0 → Type 0
-FieldTower K W O = Either K (Either W O)
+abbrev pub tower_shape : KindTower → KindShape
+tower_shape t = arm_shape t.arm
 
-abbrev pub field_tower_shape : {K WS WL WH OS OL : Type 0} {wt : _} {wa : _} {ot : _} → (K → KindShape)
-    → FieldTower K (Stack (Maybe K) WinReset WS WL WH wt wa) (Observed K OS OL ot) → FieldShape
-field_tower_shape shape (Left t) = shaped (shape t) reset.Never
-field_tower_shape shape (Right (Left t)) = shaped (shape t.low.part) reset.Winning
-field_tower_shape shape (Right (Right t)) = shaped (shape t.part) reset.Observed
+-- the tower of a field, with these towers of fields that have a reset
+abbrev pub FieldTower : Type 0 → Type 0 → Type 0
+FieldTower W O = Either KindTower (Either W O)
+
+abbrev pub field_tower_shape : {WS WL WH OS OL : Type 0} {wt : _} {wa : _} {ot : _}
+    → FieldTower (Stack (Maybe KindTower) WinReset WS WL WH wt wa) (Observed KindTower OS OL ot) → FieldShape
+field_tower_shape (Left t) = shaped (tower_shape t) reset.Never
+field_tower_shape (Right (Left t)) = shaped (tower_shape t.low.part) reset.Winning
+field_tower_shape (Right (Right t)) = shaped (tower_shape t.part) reset.Observed

@@ -2,5 +2,11 @@
 #![tactic(auto)]
 
 mod either;
+mod fields;
+mod kinds;
 
 pub use either::Either;
+pub use fields::{FieldOp, FieldState, FieldTower};
+pub use kinds::{
+    AllKinds, AllOps, AllStates, FirstKinds, KindOp, KindState, KindTower, LastKinds, MapKinds,
+};

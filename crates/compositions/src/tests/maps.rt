@@ -1,4 +1,4 @@
-use super::{first_of, shown_after, turns};
+use super::{are_same, first_of, shown_after, turns};
 use crdt_laws::{NoMemory, Tower, Txt};
 use map_crdt::{KeyOp, Keyed};
 use number_crdts::number;
@@ -59,7 +59,7 @@ fn keeps_keys_apart(rt: HostRuntime) -> Result<(), Fail> {
     let six = on_key(alloc, "ann", StackOp::Low(6))?;
     assert!(rt; turns(alloc, &tower, &triple, &ann, &six)?);
     assert!(rt; !turns(alloc, &tower, &triple, &bob, &six)?);
-    assert!(rt; !tower.same_op(&ann, &bob));
+    assert!(rt; !are_same(&tower, &ann, &bob));
     let ops = [bob, triple];
     let shown = shown_after(alloc, &tower, ops.as_slice())?;
     assert_eq!(rt; shown.as_str(), r#"{"ann":0,"bob":2}"#);

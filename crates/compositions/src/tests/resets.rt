@@ -175,6 +175,14 @@ fn forgets_what_each_reset_forgets(rt: HostRuntime) -> Result<(), Fail> {
     Ok(())
 }
 
+// A copy of a state of a document with two members.
+fn copied<T: Tower>(alloc: Global, tower: &T, state: &T::State) -> Result<T::State, NoMemory>
+    requires { (T.meaning tower.now).good 2 state.now }
+    ensures { IfOk result (λ s. s ≡ state.now) }
+{
+    tower.copy_state(alloc, state)
+}
+
 // A factor of 3 and an addition of 2 that did not know of each other stay in the log until both are settled.
 #[test]
 fn settles_what_is_clean(rt: HostRuntime) -> Result<(), Fail> {
@@ -186,7 +194,7 @@ fn settles_what_is_clean(rt: HostRuntime) -> Result<(), Fail> {
     let ops = with_next(&tower, ops, second_at(0, 1), adds(2))?;
     let state = folded(alloc, &tower, &ops)?;
     assert_eq!(rt; shown(alloc, &tower, &state)?.as_str(), "6");
-    let copy = tower.copy_state(alloc, &state)?;
+    let copy = copied(alloc, &tower, &state)?;
     let early = tower.settle(alloc, state, &clock_of(1, 0))?;
     assert_eq!(rt; early.log.len(), 2);
     let late = tower.settle(alloc, copy, &clock_of(1, 1))?;
