@@ -3,9 +3,11 @@
 
 mod document;
 mod either;
+mod kind;
 
-pub use document::{
-    FIELDS_CODER, FieldCoder, FieldsCoder, FirstCoder, KIND_CODER, KindCoder, LastCoder, MapCoder,
-    NUMBER_CODER, NumberCoder, RichCoder, WinningCoder,
-};
+pub use document::{FIELDS_CODER, FieldCoder, FieldsCoder, WinningCoder};
 pub use either::EitherCoder;
+pub use kind::{
+    AllCoder, FirstCoder, KIND_CODER, KindCoder, KindsCoder, LastCoder, MapCoder, NUMBER_CODER,
+    NumberCoder, RichCoder,
+};
